@@ -14,3 +14,7 @@ elementOf place = place % 32
 -- "room if its tree length is < 2^(shift+5)"
 abbrev pub roomFor : ℕ → ℕ → Bool
 roomFor place shift = ltb place (2 ^ (shift + 5))
+
+-- a sum of two words; only on a state that calls cannot make does it wrap
+abbrev pub plus : ℕ → ℕ → ℕ
+plus a b = (a + b) % 2 ^ 64
