@@ -1,0 +1,4 @@
+pub mod Walks
+pub mod Rooms
+pub mod Pushes
+pub mod Pops
