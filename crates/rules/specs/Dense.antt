@@ -7,9 +7,9 @@ use native.Mathlib.Omega.{arith}
 use native.Mathlib.Nat.{pow-zero, pow-suc, pow-succ', mul-le-mul-right, one-le-pow}
 use native.Mathlib.Decide.{decLe}
 use lib.ListN.{length, length-append}
-use Rattle.rules.specs.Lists.{init-snoc, last-snoc, length-init}
-use Rattle.rules.specs.Alls.{All, all-init, all-last, all-by-last, all-weak}
-use Rattle.rules.specs.Sums.{sum-all, sum-by-last}
+use Rattle.lists.specs.Ends.{init-snoc, last-snoc, length-init}
+use Rattle.lists.specs.Alls.{All, all-init, all-last, all-by-last, all-weak}
+use Rattle.lists.specs.Sums.{sum-all, sum-by-last}
 use Rattle.rules.specs.Trees.{Tree, nothing, size, others, lastKid}
 use Rattle.rules.specs.Rules.{chain}
 use Rattle.rules.specs.Shape.{Solid, Counted, Full, Dense, Tidy, Edge, Kinds}

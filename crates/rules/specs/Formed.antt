@@ -6,8 +6,8 @@ use mathlib.Core.Bool.{true, false}
 use native.Mathlib.Omega.{arith}
 use native.Mathlib.Nat.{pow-suc, mul-mod-left, mul-assoc, add-mul}
 use lib.ListN.{length}
-use Rattle.rules.specs.Alls.{All, all-weak, all-by-last}
-use Rattle.rules.specs.Sums.{sum, sum-least}
+use Rattle.lists.specs.Alls.{All, all-weak, all-by-last}
+use Rattle.lists.specs.Sums.{sum, sum-least}
 use Rattle.rules.specs.Trees.{Tree, nothing, count, size, others, lastKid, entries}
 use Rattle.rules.specs.Shape.{Counted, Full, Dense, Tidy, Edge, Kinds, Top, Sound}
 use Rattle.rules.specs.Dense.{dense-split}

@@ -7,7 +7,7 @@ use mathlib.Core.Option.{Option, none, some}
 use native.Mathlib.Omega.{arith}
 use lib.Dec.{ltb}
 use lib.ListN.{length, take, drop, length-append}
-use Rattle.rules.specs.Cuts.{ceil}
+use Rattle.lists.specs.Cuts.{ceil}
 use Rattle.rules.specs.Trees.{nodes, Root, Vector, treeNodes, held}
 use Rattle.rules.specs.Rules.{room, leafPush, meet, settle, push, flush, append}
 use Rattle.rules.specs.Shape.{SolidTree, SoundTree, SoundVector}

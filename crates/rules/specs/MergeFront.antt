@@ -5,10 +5,10 @@ use mathlib.Core.List.{List, [], _∷_, _++_, append-nil}
 use native.Mathlib.Omega.{arith}
 use native.Mathlib.Decide.{decLe}
 use lib.ListN.{length, take, length-append, length-take}
-use Rattle.rules.specs.Lists.{firstOr, rest, init, length-init, length-rest, first-join, first-init, first-take}
-use Rattle.rules.specs.Alls.{All, all-weak, all-by-last}
-use Rattle.rules.specs.Sums.{sum, sum-all, sum-by-first, sum-join}
-use Rattle.rules.specs.Cuts.{ceil, ceil-le, ceil-ge}
+use Rattle.lists.specs.Ends.{firstOr, rest, init, length-init, length-rest, first-join, first-init, first-take}
+use Rattle.lists.specs.Alls.{All, all-weak, all-by-last}
+use Rattle.lists.specs.Sums.{sum, sum-all, sum-by-first, sum-join}
+use Rattle.lists.specs.Cuts.{ceil, ceil-le, ceil-ge}
 use Rattle.rules.specs.Trees.{Tree, Slot, nothing, count, others, lastKid, firstKid, laterKids, Root}
 use Rattle.rules.specs.Rules.{build, pour, repack, ascend, Meet, leaves, level, leftTaller, rightTaller, meet, merge, join}
 use Rattle.rules.specs.Shape.{Tidy, Edge, Kinds, Packed, Crowded, Front, Top, Wide, Sound}

@@ -9,8 +9,8 @@ use native.Mathlib.Omega.{arith}
 use borrow.Author.Tests.{ne-eqb}
 use lib.Dec.{eqb}
 use lib.ListN.{length, length-append}
-use Rattle.rules.specs.Sums.{sum, sum-join}
-use Rattle.rules.specs.Cuts.{ceil}
+use Rattle.lists.specs.Sums.{sum, sum-join}
+use Rattle.lists.specs.Cuts.{ceil}
 use Rattle.rules.specs.Trees.{Tree, count, nodes, treeNodes}
 use Rattle.rules.specs.Rules.{lower, build, pour, repack, ascend}
 use Rattle.rules.specs.Pours.{pour-length, pour-counts, pour-nodes, repack-length, repack-nodes}

@@ -4,10 +4,10 @@ use mathlib.Core.List.{List, [], _∷_, _++_, append-nil}
 use native.Mathlib.Omega.{arith}
 use native.Mathlib.Nat.{mul-le-mul-right}
 use lib.ListN.{length, length-append}
-use Rattle.rules.specs.Lists.{length-init, length-rest, firstOr, rest}
-use Rattle.rules.specs.Alls.{All, all-join, all-rest, all-first}
-use Rattle.rules.specs.Sums.{sum, sum-least, sum-most}
-use Rattle.rules.specs.Cuts.{ceil, ceil-le, ceil-ge}
+use Rattle.lists.specs.Ends.{length-init, length-rest, firstOr, rest}
+use Rattle.lists.specs.Alls.{All, all-join, all-rest, all-first}
+use Rattle.lists.specs.Sums.{sum, sum-least, sum-most}
+use Rattle.lists.specs.Cuts.{ceil, ceil-le, ceil-ge}
 use Rattle.rules.specs.Trees.{Tree, nothing, count, others, lastKid, firstKid, laterKids}
 use Rattle.rules.specs.Rules.{Meet, leaves, level, leftTaller, rightTaller, repack, ascend, merge}
 use Rattle.rules.specs.Shape.{Tidy, Edge, Kinds}

@@ -6,10 +6,10 @@ use mathlib.Core.Bool.{Bool, true, false, cond}
 use native.Mathlib.Omega.{arith}
 use native.Mathlib.Decide.{decLe}
 use lib.ListN.{length, take, drop, length-take, length-drop}
-use Rattle.rules.specs.Lists.{init, length-init}
-use Rattle.rules.specs.Alls.{All, all-last, all-by-last, all-take, init-take, take-init}
-use Rattle.rules.specs.Sums.{concatMap, sum, sum-all, sum-by-last, sum-take}
-use Rattle.rules.specs.Cuts.{cut, by-pieces}
+use Rattle.lists.specs.Ends.{init, length-init}
+use Rattle.lists.specs.Alls.{All, all-last, all-by-last, all-take, init-take, take-init}
+use Rattle.lists.specs.Sums.{concatMap, sum, sum-all, sum-by-last, sum-take}
+use Rattle.lists.specs.Cuts.{cut, by-pieces}
 use Rattle.rules.specs.Trees.{Tree, Slot, slots, nothing, count}
 use Rattle.rules.specs.Rules.{isFull, make, pour, repack}
 use Rattle.rules.specs.Shape.{Packed, Crowded}

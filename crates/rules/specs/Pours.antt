@@ -6,8 +6,8 @@ use mathlib.Core.Bool.{Bool, true, false, cond}
 use native.Mathlib.Omega.{arith}
 use borrow.Author.Tests.{eqb-true, eq-eqb, ne-eqb}
 use lib.ListN.{length, take, drop, length-map}
-use Rattle.rules.specs.Sums.{concatMap, sum, sum-same, sum-suc, sum-concatMap, concatMap-map, concatMap-same, concatMap-singles, length-concatMap}
-use Rattle.rules.specs.Cuts.{cut, ceil, ceil-zero, ceil-step, cut-cons, cut-full, cut-short, length-cut, concat-cut}
+use Rattle.lists.specs.Sums.{concatMap, sum, sum-same, sum-suc, sum-concatMap, concatMap-map, concatMap-same, concatMap-singles, length-concatMap}
+use Rattle.lists.specs.Cuts.{cut, ceil, ceil-zero, ceil-step, cut-cons, cut-full, cut-short, length-cut, concat-cut}
 use Rattle.rules.specs.Trees.{Tree, Slot, slots, count, nodes}
 use Rattle.rules.specs.Rules.{isFull, make, pour, repack}
 

@@ -8,8 +8,8 @@ use native.Mathlib.Omega.{arith}
 use borrow.Author.Tests.{eqb-true, eqb-false, eq-eqb, ne-eqb}
 use lib.Dec.{eqb}
 use lib.ListN.{length}
-use Rattle.rules.specs.Alls.{all-last, all-first}
-use Rattle.rules.specs.Sums.{sum, sum-join, sum-by-last}
+use Rattle.lists.specs.Alls.{all-last, all-first}
+use Rattle.lists.specs.Sums.{sum, sum-join, sum-by-last}
 use Rattle.rules.specs.Trees.{Tree, nothing, lastKid, others, firstKid, nodes, Root, treeNodes}
 use Rattle.rules.specs.Rules.{chain, put, pushInto, room, leafPush}
 use Rattle.rules.specs.Shape.{Solid, SolidTree}

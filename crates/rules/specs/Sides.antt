@@ -9,8 +9,8 @@ use native.Mathlib.Omega.{arith}
 use native.Mathlib.Decide.{ℕ-discrete}
 use borrow.Author.Tests.{eq-eqb, ne-eqb}
 use lib.Dec.{eqb}
-use Rattle.rules.specs.Lists.{init-snoc, last-snoc}
-use Rattle.rules.specs.Sums.{sum, sum-by-last, sum-by-first}
+use Rattle.lists.specs.Ends.{init-snoc, last-snoc}
+use Rattle.lists.specs.Sums.{sum, sum-by-last, sum-by-first}
 use Rattle.rules.specs.Trees.{Tree, nothing, lastKid, others, firstKid, laterKids, relaxed, nodes, Root}
 use Rattle.rules.specs.Rules.{chain, put, pushInto, room, leafPush, lower, lastLeaf, Meet, leaves, level, leftTaller, rightTaller, meet, build, pour, ascend, merge, join, flush}
 use Rattle.rules.specs.Shape.{Solid}

@@ -4,8 +4,8 @@ use mathlib.Core.List.{List, [], _∷_, _++_}
 use mathlib.Core.Bool.{Bool, false}
 use mathlib.Core.Option.{Option, none, some}
 use lib.ListN.{length}
-use Rattle.rules.specs.Lists.{init, lastOr, firstOr, rest}
-use Rattle.rules.specs.Sums.{concatMap, sum}
+use Rattle.lists.specs.Ends.{init, lastOr, firstOr, rest}
+use Rattle.lists.specs.Sums.{concatMap, sum}
 
 -- A tree of height 0 is a leaf: its elements. A higher one is a node: is it a RelaxedBranch (true) or a Branch (false), and
 -- its children, one level lower. So kinds fit levels and all leaves are at height 0, by the type.

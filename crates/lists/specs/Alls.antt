@@ -3,8 +3,8 @@ use Prim.Native.Nat.{ℕ, zero, suc, _<_, _≤_}
 use mathlib.Core.List.{List, [], _∷_, _++_}
 use mathlib.Core.Bool.{Bool, false, _||_}
 use native.Mathlib.Omega.{arith}
-use lib.ListN.{length, take, drop, getD}
-use Rattle.rules.specs.Lists.{init, lastOr, firstOr, rest, modify}
+use lib.ListN.{length, take, drop, getD, set}
+use Rattle.lists.specs.Ends.{init, lastOr, firstOr, rest, modify}
 
 abbrev pub All : {A : Type 0} → (A → Type 0) → List A → Type 0
 All P [] = Unit {0}
@@ -51,7 +51,7 @@ pub all-rest : {A : Type 0} (P : A → Type 0) (xs : List A) → All P xs → Al
 all-rest P [] p = tt
 all-rest P (x ∷ xs) p = p .1
 
--- a part, one element, one element changed
+-- a part, one element, one element stored or changed
 pub all-take : {A : Type 0} (P : A → Type 0) (n : ℕ) (xs : List A) → All P xs → All P (take n xs)
 all-take P zero xs p = tt
 all-take P (suc n) [] p = tt
@@ -66,6 +66,11 @@ pub all-at : {A : Type 0} (P : A → Type 0) (d : A) (xs : List A) (i : ℕ) →
 all-at P d [] i n a = absurd (omega arith)
 all-at P d (x ∷ xs) zero n a = a .0
 all-at P d (x ∷ xs) (suc i) n a = all-at P d xs i (omega arith) (a .1)
+
+pub all-set : {A : Type 0} (P : A → Type 0) (i : ℕ) (y : A) (xs : List A) → P y → All P xs → All P (set xs i y)
+all-set P i y [] q p = tt
+all-set P zero y (x ∷ xs) q p = (q, p .1)
+all-set P (suc i) y (x ∷ xs) q p = (p .0, all-set P i y xs q (p .1))
 
 pub all-modify : {A : Type 0} (P : A → Type 0) (i : ℕ) (g : A → A) → ((a : A) → P a → P (g a)) → (xs : List A) → All P xs → All P (modify i g xs)
 all-modify P i g c [] a = tt

@@ -1,11 +1,11 @@
 -- Sums over a list, and lists put together from a list's elements.
-use Prim.Native.Nat.{ℕ, suc, _+_, _*_, _≤_}
+use Prim.Native.Nat.{ℕ, zero, suc, _+_, _*_, _<_, _≤_}
 use mathlib.Core.Path.{_≡_, refl, sym, _∙_, ap}
 use mathlib.Core.List.{List, [], _∷_, _++_, append-assoc, map}
 use native.Mathlib.Omega.{arith}
-use lib.ListN.{length, take, drop, length-append, take-append-drop}
-use Rattle.rules.specs.Lists.{init, lastOr, firstOr, rest, modify}
-use Rattle.rules.specs.Alls.{All}
+use lib.ListN.{length, take, drop, getD, set, replicate, length-append, take-append-drop}
+use Rattle.lists.specs.Ends.{init, lastOr, firstOr, rest, modify}
+use Rattle.lists.specs.Alls.{All}
 
 abbrev pub concatMap : {A B : Type 0} → (A → List B) → List A → List B
 concatMap f [] = []
@@ -60,6 +60,10 @@ pub sum-concatMap : {A B : Type 0} (f : B → ℕ) (g : A → List B) (xs : List
 sum-concatMap f g [] = refl
 sum-concatMap f g (x ∷ xs) = let h = sum-concatMap f g xs in let k = sum-join f (g x) (concatMap g xs) in omega arith
 
+pub sum-le : {A : Type 0} (f g : A → ℕ) → ((a : A) → f a ≤ g a) → (xs : List A) → sum f xs ≤ sum g xs
+sum-le f g h [] = omega arith
+sum-le f g h (x ∷ xs) = omega (arith, h x, sum-le f g h xs)
+
 -- by the ends
 pub sum-by-last : {A : Type 0} (f : A → ℕ) (d : A) (xs : List A) → 1 ≤ length xs → sum f xs ≡ sum f (init xs) + f (lastOr d xs)
 sum-by-last f d [] h = absurd (omega arith)
@@ -70,14 +74,23 @@ pub sum-by-first : {A : Type 0} (f : A → ℕ) (d : A) (xs : List A) → 1 ≤ 
 sum-by-first f d [] h = absurd (omega arith)
 sum-by-first f d (x ∷ xs) h = refl
 
--- a part, one element changed
+-- a part, one element changed or stored, one element so many times
 pub sum-take : {A : Type 0} (f : A → ℕ) (n : ℕ) (xs : List A) → sum f (take n xs) ≤ sum f xs
 sum-take f n xs = let e = sum-join f (take n xs) (drop n xs) in let q = ap (sum f) (take-append-drop n xs) in omega arith
 
 pub sum-modify : {A : Type 0} (f : A → ℕ) (i : ℕ) (g : A → A) → ((a : A) → f (g a) ≡ f a) → (xs : List A) → sum f (modify i g xs) ≡ sum f xs
 sum-modify f i g c [] = refl
-sum-modify f ℕ.zero g c (x ∷ xs) = let e = c x in omega arith
+sum-modify f zero g c (x ∷ xs) = let e = c x in omega arith
 sum-modify f (suc i) g c (x ∷ xs) = let e = sum-modify f i g c xs in omega arith
+
+pub sum-set : {A : Type 0} (f : A → ℕ) (d : A) (xs : List A) (i : ℕ) (y : A) → i < length xs → sum f (set xs i y) + f (getD xs i d) ≡ sum f xs + f y
+sum-set f d [] i y h = absurd (omega arith)
+sum-set f d (x ∷ xs) zero y h = omega arith
+sum-set f d (x ∷ xs) (suc i) y h = let ih = sum-set f d xs i y (omega arith) in omega arith
+
+pub sum-replicate : {A : Type 0} (f : A → ℕ) (n : ℕ) (x : A) → sum f (replicate n x) ≡ n * f x
+sum-replicate f zero x = omega arith
+sum-replicate f (suc n) x = let ih = sum-replicate f n x in omega arith
 
 -- of equal summands, and of summands that have a bound
 pub sum-all : {A : Type 0} (P : A → Type 0) (f : A → ℕ) (n : ℕ) → ((a : A) → P a → f a ≡ n) → (xs : List A) → All P xs → sum f xs ≡ length xs * n

@@ -8,7 +8,7 @@ use native.Mathlib.Numerals.{add-one}
 use native.Mathlib.Decide.{decLe}
 use lib.ListN.{length, take, drop, length-drop, take-append-drop}
 use lib.Seq.{take-all, take-at, drop-at}
-use Rattle.rules.specs.Sums.{concatMap, concatMap-join}
+use Rattle.lists.specs.Sums.{concatMap, concatMap-join}
 
 -- The pieces, the last one the rest; the first number bounds how many there can be.
 abbrev pub cutBy : {A : Type 0} → ℕ → ℕ → List A → List (List A)
