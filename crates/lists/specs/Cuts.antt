@@ -7,7 +7,7 @@ use native.Mathlib.Nat.{div-eq-of-lt, div-eq-sub-div, div-lt-iff-lt-mul, div-add
 use native.Mathlib.Numerals.{add-one}
 use native.Mathlib.Decide.{decLe}
 use lib.ListN.{length, take, drop, length-drop, take-append-drop}
-use lib.Seq.{take-all, take-at, drop-at}
+use lib.Seq.{take-all, take-at, drop-at, length-take-le}
 use Rattle.lists.specs.Sums.{concatMap, concatMap-join}
 
 -- The pieces, the last one the rest; the first number bounds how many there can be.
@@ -51,6 +51,9 @@ ceil-le m k n p h = let e : (m + (n - 1)) / n < suc k = div-lt-iff-lt-mul {k = n
 le-ceil : (m n : ℕ) → 0 < n → m ≤ ceil m n * n
 unfolding ceil
 le-ceil m n p = let e = div-add-mod' (m + (n - 1)) n in let l = mod-lt (m + (n - 1)) p in omega arith
+
+pub ceil-mono : (m k n : ℕ) → 0 < n → m ≤ k → ceil m n ≤ ceil k n
+ceil-mono m k n p h = let a = le-ceil k n p in ceil-le m (ceil k n) n p (omega arith)
 
 pub ceil-ge : (m k n : ℕ) → 0 < n → k * n < m + n → k ≤ ceil m n
 ceil-ge m k n p h = go (decLe k (ceil m n))
@@ -106,6 +109,19 @@ by-pieces n P p base step xs = go (length xs) xs (omega arith)
     go zero (y ∷ ys) h = absurd (omega arith)
     go (suc k) [] h = base
     go (suc k) (y ∷ ys) h = let l = length-drop n (y ∷ ys) in rw (cut-cons n y ys p) (step y ys (go k (drop n (y ∷ ys)) (omega arith)))
+
+-- To show something of a list: of one shorter than n, and of n elements before another list.
+pub by-full : {A : Type 0} (n : ℕ) (P : List A → Type 0) → 0 < n → ((xs : List A) → length xs < n → P xs)
+    → ((p xs : List A) → length p ≡ n → P xs → P (p ++ xs)) → (xs : List A) → P xs
+by-full n P z short full xs = go (length xs) xs (omega arith)
+  where
+    step : (k : ℕ) (ys : List _) → length ys ≤ suc k → (P (drop n ys)) → Dec (n ≤ length ys) → P ys
+    step k ys h ih (yes q) = rw (take-append-drop n ys) at (full (take n ys) (drop n ys) (length-take-le n ys q) ih)
+    step k ys h ih (no q) = short ys (omega arith)
+
+    go : (k : ℕ) (ys : List _) → length ys ≤ k → P ys
+    go zero ys h = short ys (omega arith)
+    go (suc k) ys h = step k ys h (go k (drop n ys) (let l = length-drop n ys in omega arith)) (decLe n (length ys))
 
 -- The pieces, put together again, are the list; how many they are.
 pub concat-cut : {A B : Type 0} (f : A → List B) (n : ℕ) (xs : List A) → 0 < n → concatMap (concatMap f) (cut n xs) ≡ concatMap f xs

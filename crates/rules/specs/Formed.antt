@@ -9,7 +9,7 @@ use lib.ListN.{length}
 use Rattle.lists.specs.Alls.{All, all-weak, all-by-last}
 use Rattle.lists.specs.Sums.{sum, sum-least}
 use Rattle.rules.specs.Trees.{Tree, nothing, count, size, others, lastKid, entries}
-use Rattle.rules.specs.Shape.{Counted, Full, Dense, Tidy, Edge, Kinds, Top, Sound}
+use Rattle.rules.specs.Shape.{Full, Dense, Tidy, Edge, Kinds, Top, Sound}
 use Rattle.rules.specs.Dense.{dense-split}
 
 -- of every node of a tree
@@ -58,22 +58,16 @@ module _ (S : ℕ) where
   full-down zero t f = f
   full-down (suc h) t f = (f .1, all-weak (Full S h) (FullDown h) (full-down h) (t .1) (f .2))
 
-  -- What holds of every node by its count and, if it is marked dense, by being dense to the bottom.
-  module _ (P : (h : ℕ) → Tree h → Type 0) (leaf : (t : Tree zero) → Counted S t → P zero t)
-      (node : (h : ℕ) (t : Tree (suc h)) → Counted S (t .1) → (t .0 ≡ false → Dense S (suc h) t) → All (EveryNode P h) (t .1) → P (suc h) t) where
-    tidy-every : (h : ℕ) (t : Tree h) → Tidy S h t → EveryNode P h t
-    tidy-every zero t d = leaf t d
-    tidy-every (suc h) t d = let a = all-weak (Tidy S h) (EveryNode P h) (tidy-every h) (t .1) (d .1) in (node h t (d .0) (d .2) a, a)
-
-    every : (h : ℕ) (t : Tree h) → Edge S h t → Kinds S h t → EveryNode P h t
-    every zero t e k = leaf t e
-    every (suc h) t e k =
-        let a = all-by-last (EveryNode P h) (nothing h) (t .1) (all-weak (Tidy S h) (EveryNode P h) (tidy-every h) (others h t) (e .1)) (every h (lastKid h t) (e .2) (k .1)) in
-        (node h t (e .0) (k .0) a, a)
-
-  counts-fit : (h : ℕ) (t : Tree h) → Edge S h t → Kinds S h t → EveryNode CountFits h t
+  tidy-counts : (h : ℕ) (t : Tree h) → Tidy S h t → EveryNode CountFits h t
   unfolding count
-  counts-fit = every CountFits (λ t c. c) (λ h t c d a. c)
+  tidy-counts zero t d = d
+  tidy-counts (suc h) t d = (d .0, all-weak (Tidy S h) (EveryNode CountFits h) (tidy-counts h) (t .1) (d .1))
+
+  pub edge-counts : (h : ℕ) (t : Tree h) → Edge S h t → EveryNode CountFits h t
+  unfolding count
+  edge-counts zero t e = e
+  edge-counts (suc h) t e =
+      (e .0, all-by-last (EveryNode CountFits h) (nothing h) (t .1) (all-weak (Tidy S h) (EveryNode CountFits h) (tidy-counts h) (others h t) (e .1)) (edge-counts h (lastKid h t) (e .2)))
 
   fits-size : (h : ℕ) (t : Tree h) → EveryNode CountFits h t → 1 ≤ size h t
   unfolding size count
@@ -109,6 +103,17 @@ module _ (S : ℕ) where
         let m = multiple (suc h) t d in
         (all-weak (Full S h) (FullDown h) (full-down h) (others h t) (d .2), rw (m .1) (mul-mod-left (m .0) S))
 
+    tidy-branches : (h : ℕ) (t : Tree h) → Tidy S h t → EveryNode BranchFits h t
+    tidy-branches zero t d = tt
+    tidy-branches (suc h) t d = ((λ e. branch-fits h t (d .2 e)), all-weak (Tidy S h) (EveryNode BranchFits h) (tidy-branches h) (t .1) (d .1))
+
+    edge-branches : (h : ℕ) (t : Tree h) → Edge S h t → Kinds S h t → EveryNode BranchFits h t
+    edge-branches zero t e k = tt
+    edge-branches (suc h) t e k = (
+      (λ f. branch-fits h t (k .0 f)),
+      all-by-last (EveryNode BranchFits h) (nothing h) (t .1) (all-weak (Tidy S h) (EveryNode BranchFits h) (tidy-branches h) (others h t) (e .1)) (edge-branches h (lastKid h t) (e .2) (k .1)),
+    )
+
     root-fits : (h : ℕ) (t : Tree h) → Top S h t → RootFits h t
     root-fits zero t w = tt
     root-fits (suc h) t w = w .0
@@ -119,10 +124,10 @@ module _ (S : ℕ) where
 
     pub sound-formed : (h : ℕ) (t : Tree h) → Sound S h t → WellFormed h t
     sound-formed h t s =
-        let c = counts-fit h t (s .edge) (s .kinds) in
+        let c = edge-counts h t (s .edge) in
         record {
           counts = c;
           root = root-fits h t (s .top);
-          branches = every BranchFits (λ t c. tt) (λ h t c d a e. branch-fits h t (d e)) h t (s .edge) (s .kinds);
+          branches = edge-branches h t (s .edge) (s .kinds);
           sizes = sizes-rise h t c;
         }

@@ -14,7 +14,7 @@ use Rattle.rules.specs.Shape.{SolidTree, SoundTree, SoundVector}
 use Rattle.rules.specs.Rooms.{Between, room-in}
 use Rattle.rules.specs.PushNodes.{added, leafPush-nodes}
 use Rattle.rules.specs.Dense.{edge-solid}
-use Rattle.rules.specs.Sides.{hung, receiver, meeting, join-meets, sideSum, sidesSum, both-sum, no-side-sum, rightSide, left-nodes, right-nodes}
+use Rattle.rules.specs.Sides.{hung, receiver, met, meeting, join-meets, sideSum, sidesSum, both-sum, no-side-sum, rightSide, left-nodes, right-nodes}
 use Rattle.rules.specs.MergeNodes.{one, rise, made, rootOver, join-nodes}
 use Rattle.rules.specs.Vectors.{append-tails, append-moves, append-trees}
 
@@ -78,7 +78,7 @@ module _ (S : ℕ) (two : 2 ≤ S) where
       let n = length (m .middle) in
       let top = ceil (rise S (m .height) (m .sides) n) S in
       held (append S v w) + (onWay S (v .tree) (v .tail) + suc (r .0) + sidesSum one (m .height) (m .sides)) ≡ held v + held w + (made S (m .height) (m .sides) n + (top + rootOver top))
-  unfolding held meeting
+  unfolding held meeting met
   append-held-trees v w l r s t e f =
       let m = meeting S (v .tree) (v .tail) r in
       let a = receiver S (v .tree) (v .tail) in

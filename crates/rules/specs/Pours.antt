@@ -15,6 +15,9 @@ pub counted : (h : ℕ) (t : Tree h) → length (slots h t) ≡ count h t
 unfolding count
 counted h t = refl
 
+pub slots-counts : (h : ℕ) (ts : List (Tree h)) → length (concatMap (slots h) ts) ≡ sum (count h) ts
+slots-counts h ts = length-concatMap (slots h) (count h) (counted h) ts
+
 module _ (S : ℕ) where
   pub make-slots : (h : ℕ) (xs : List (Slot h)) → slots h (make S h xs) ≡ xs
   make-slots zero xs = refl
@@ -71,9 +74,6 @@ module _ (S : ℕ) (pos : 0 < S) where
       ∙ concatMap-same _ _ (λ ys. make-slots S h ys ∙ sym (concatMap-singles ys)) (cut S xs)
       ∙ concat-cut (λ x. x ∷ []) S xs pos
       ∙ concatMap-singles xs
-
-  pub slots-counts : (h : ℕ) (ts : List (Tree h)) → length (concatMap (slots h) ts) ≡ sum (count h) ts
-  slots-counts h ts = length-concatMap (slots h) (count h) (counted h) ts
 
   pub pour-counts : (h : ℕ) (xs : List (Slot h)) → sum (count h) (pour S h xs) ≡ length xs
   pour-counts h xs = sym (slots-counts h (pour S h xs)) ∙ ap length (pour-slots h xs)

@@ -61,7 +61,7 @@ mergeSides S (suc m) s xs = ascend S m (s .1) (mergeSides S m (s .0) xs) (s .2)
 unfoldable pub joinSides : (S m : ℕ) → Sides m → List ℕ → Root
 joinSides S m s xs = lower (suc m) (build S m (mergeSides S m s xs))
 
-left-below : (h stop : ℕ) (t : Tree (suc h)) → stop ≤ h → leftSide (suc h) stop t ≡ (leftSide h stop (lastKid h t), others h t)
+pub left-below : (h stop : ℕ) (t : Tree (suc h)) → stop ≤ h → leftSide (suc h) stop t ≡ (leftSide h stop (lastKid h t), others h t)
 unfolding leftSide
 left-below h stop t l = rw (ne-eqb stop (suc h) (λ e. omega arith))
 
@@ -153,18 +153,20 @@ pub record Meeting : Type 0 where
   -- the elements of the two leaves that meet
   pub middle : List ℕ
 
-unfoldable pub meeting : (S : ℕ) → Option Root → List ℕ → Root → Meeting
-meeting S o tail r =
-    let a = receiver S o tail in
+-- a left part met with a right tree
+unfoldable pub met : Left → Root → Meeting
+met a r =
     let p = meet (a .0) (r .0) in
     record { height = p .0; sides = both (p .1) (a .1) (rightSide (r .0) (r .1)); middle = a .2 ++ firstLeaf (r .0) (r .1) }
 
+unfoldable pub meeting : (S : ℕ) → Option Root → List ℕ → Root → Meeting
+meeting S o tail r = met (receiver S o tail) r
+
 pub join-meets : (S : ℕ) → 0 < S → (o : Option Root) (tail : List ℕ) (l r : Root) → flush S o tail ≡ some l
     → let m = meeting S o tail r in join S l r ≡ joinSides S (m .height) (m .sides) (m .middle)
-unfolding meeting
+unfolding meeting met
 join-meets S pos o tail l r e =
-    join-sides S pos l r
-    ∙ ap (λ (a : Left). let p = meet (a .0) (r .0) in joinSides S (p .0) (both (p .1) (a .1) (rightSide (r .0) (r .1))) (a .2 ++ firstLeaf (r .0) (r .1))) (flush-left S o tail l e)
+    join-sides S pos l r ∙ ap (λ (a : Left). let m = met a r in joinSides S (m .height) (m .sides) (m .middle)) (flush-left S o tail l e)
 
 -- Sums over the rows: their nodes, or what is in them.
 unfoldable pub sideSum : ((h : ℕ) → Tree h → ℕ) → (h : ℕ) → Side h → ℕ
