@@ -5,7 +5,8 @@ use mathlib.Core.List.{List}
 use mathlib.Core.Option.{Option, some}
 use lib.ListN.{length}
 use Rattle.rules.specs.Trees.{Root, Vector, treeNodes}
-use Rattle.rules.specs.Formed.{EveryNode, CountFits, RootFits, BranchFits, SizesRise}
+use Rattle.rules.specs.Shape.{CountFits}
+use Rattle.rules.specs.Formed.{EveryNode, RootFits, BranchFits, SizesRise}
 use Rattle.machine.specs.Machine.{Rules, Head, State, promised, allHeld, free}
 use Rattle.machine.specs.Numbers.{OpenAt}
 

@@ -7,8 +7,8 @@ use lib.ListN.{length, length-append}
 use Rattle.lists.specs.Alls.{all-first}
 use Rattle.rules.specs.Trees.{Tree, nothing, firstKid, count, Root, Vector}
 use Rattle.rules.specs.Rules.{lastLeaf, meet, flush, append}
-use Rattle.rules.specs.Shape.{Edge, Sound, SoundVector}
-use Rattle.rules.specs.Formed.{EveryNode, CountFits, edge-counts}
+use Rattle.rules.specs.Shape.{CountFits, Edge, Sound, SoundVector}
+use Rattle.rules.specs.Formed.{EveryNode, edge-counts}
 use Rattle.rules.specs.Sides.{Left, leftOf, firstLeaf, mergeSides, merge-sides, flush-left, Meeting, met, meeting, join-meets}
 use Rattle.rules.specs.MergeRows.{merge-few}
 use Rattle.rules.specs.Vectors.{lastLeaf-counted, flushed, append-trees}

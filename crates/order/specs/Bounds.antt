@@ -12,7 +12,8 @@ use Rattle.lists.specs.Sums.{sum, sum-join, sum-most}
 use Rattle.lists.specs.Cuts.{ceil, ceil-le, ceil-mono}
 use Rattle.rules.specs.Trees.{Tree, Slot, nothing, lastKid, others, firstKid, laterKids, count}
 use Rattle.rules.specs.Rules.{Meet, leaves, level, leftTaller, rightTaller, pour}
-use Rattle.rules.specs.Formed.{EveryNode, CountFits}
+use Rattle.rules.specs.Formed.{EveryNode}
+use Rattle.rules.specs.Shape.{CountFits}
 use Rattle.rules.specs.Pours.{pour-counts, repack-length}
 use Rattle.rules.specs.Sides.{Side, Sides, leftSide, rightSide, both, left-below}
 use Rattle.rules.specs.MergeNodes.{rise}

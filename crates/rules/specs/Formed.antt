@@ -8,8 +8,8 @@ use native.Mathlib.Nat.{pow-suc, mul-mod-left, mul-assoc, add-mul}
 use lib.ListN.{length}
 use Rattle.lists.specs.Alls.{All, all-weak, all-by-last}
 use Rattle.lists.specs.Sums.{sum, sum-least}
-use Rattle.rules.specs.Trees.{Tree, nothing, count, size, others, lastKid, entries}
-use Rattle.rules.specs.Shape.{Full, Dense, Tidy, Edge, Kinds, Top, Sound}
+use Rattle.rules.specs.Trees.{Tree, nothing, count, size, nodes, others, lastKid, entries}
+use Rattle.rules.specs.Shape.{CountFits, Full, Dense, Tidy, Edge, Kinds, Top, Sound}
 use Rattle.rules.specs.Dense.{dense-split}
 
 -- of every node of a tree
@@ -33,10 +33,6 @@ RootFits zero t = Unit {0}
 RootFits (suc h) t = 2 ≤ length (t .1)
 
 module _ (S : ℕ) where
-  -- "counts are 1 to 32"
-  abbrev pub CountFits : (h : ℕ) → Tree h → Type 0
-  CountFits h t = (1 ≤ count h t) × (count h t ≤ S)
-
   -- full to the bottom, of whatever kind
   abbrev pub FullDown : (h : ℕ) → Tree h → Type 0
   FullDown zero t = length t ≡ S
@@ -49,7 +45,7 @@ module _ (S : ℕ) where
 
   -- A well formed tree. (That kinds fit levels and all leaves are at shift 0 is in the type of trees.)
   pub record WellFormed (h : ℕ) (t : Tree h) : Type 0 where
-    pub counts : EveryNode CountFits h t
+    pub counts : EveryNode (CountFits S) h t
     pub root : RootFits h t
     pub branches : EveryNode BranchFits h t
     pub sizes : EveryNode SizesRise h t
@@ -58,26 +54,36 @@ module _ (S : ℕ) where
   full-down zero t f = f
   full-down (suc h) t f = (f .1, all-weak (Full S h) (FullDown h) (full-down h) (t .1) (f .2))
 
-  tidy-counts : (h : ℕ) (t : Tree h) → Tidy S h t → EveryNode CountFits h t
+  tidy-counts : (h : ℕ) (t : Tree h) → Tidy S h t → EveryNode (CountFits S) h t
   unfolding count
   tidy-counts zero t d = d
-  tidy-counts (suc h) t d = (d .0, all-weak (Tidy S h) (EveryNode CountFits h) (tidy-counts h) (t .1) (d .1))
+  tidy-counts (suc h) t d = (d .0, all-weak (Tidy S h) (EveryNode (CountFits S) h) (tidy-counts h) (t .1) (d .1))
 
-  pub edge-counts : (h : ℕ) (t : Tree h) → Edge S h t → EveryNode CountFits h t
+  pub edge-counts : (h : ℕ) (t : Tree h) → Edge S h t → EveryNode (CountFits S) h t
   unfolding count
   edge-counts zero t e = e
   edge-counts (suc h) t e =
-      (e .0, all-by-last (EveryNode CountFits h) (nothing h) (t .1) (all-weak (Tidy S h) (EveryNode CountFits h) (tidy-counts h) (others h t) (e .1)) (edge-counts h (lastKid h t) (e .2)))
+      (e .0, all-by-last (EveryNode (CountFits S) h) (nothing h) (t .1) (all-weak (Tidy S h) (EveryNode (CountFits S) h) (tidy-counts h) (others h t) (e .1)) (edge-counts h (lastKid h t) (e .2)))
 
-  fits-size : (h : ℕ) (t : Tree h) → EveryNode CountFits h t → 1 ≤ size h t
+  fits-size : (h : ℕ) (t : Tree h) → EveryNode (CountFits S) h t → 1 ≤ size h t
   unfolding size count
   fits-size zero t c = c .0
   fits-size (suc h) t c =
-      let s = sum-least (EveryNode CountFits h) (size h) 1 (fits-size h) (t .1) (c .1) in
+      let s = sum-least (EveryNode (CountFits S) h) (size h) 1 (fits-size h) (t .1) (c .1) in
       let n = c .0 .0 in
       omega arith
 
-  rising : (h a : ℕ) (ts : List (Tree h)) → All (EveryNode CountFits h) ts → Rising a (entries h a ts)
+  -- a node holds at most S elements of its own
+  pub fits-nodes : (h : ℕ) (t : Tree h) → EveryNode (CountFits S) h t → size h t ≤ nodes h t * S
+  unfolding size nodes count
+  fits-nodes zero t c = let n = c .1 in omega arith
+  fits-nodes (suc h) t c = let e = go (fits-nodes h) (t .1) (c .1) in omega arith
+    where
+      go : ((u : Tree h) → EveryNode (CountFits S) h u → size h u ≤ nodes h u * S) → (ts : List (Tree h)) → All (EveryNode (CountFits S) h) ts → sum (size h) ts ≤ sum (nodes h) ts * S
+      go ih [] a = omega arith
+      go ih (u ∷ us) a = let x = ih u (a .0) in let y = go ih us (a .1) in omega arith
+
+  rising : (h a : ℕ) (ts : List (Tree h)) → All (EveryNode (CountFits S) h) ts → Rising a (entries h a ts)
   unfolding entries
   rising h a [] c = tt
   rising h a (t ∷ ts) c = (let e = fits-size h t (c .0) in omega arith, rising h (a + size h t) ts (c .1))
@@ -118,9 +124,9 @@ module _ (S : ℕ) where
     root-fits zero t w = tt
     root-fits (suc h) t w = w .0
 
-    sizes-rise : (h : ℕ) (t : Tree h) → EveryNode CountFits h t → EveryNode SizesRise h t
+    sizes-rise : (h : ℕ) (t : Tree h) → EveryNode (CountFits S) h t → EveryNode SizesRise h t
     sizes-rise zero t c = tt
-    sizes-rise (suc h) t c = ((λ e. rising h 0 (t .1) (c .1)), all-weak (EveryNode CountFits h) (EveryNode SizesRise h) (sizes-rise h) (t .1) (c .1))
+    sizes-rise (suc h) t c = ((λ e. rising h 0 (t .1) (c .1)), all-weak (EveryNode (CountFits S) h) (EveryNode SizesRise h) (sizes-rise h) (t .1) (c .1))
 
     pub sound-formed : (h : ℕ) (t : Tree h) → Sound S h t → WellFormed h t
     sound-formed h t s =

@@ -1,103 +1,28 @@
 -- A merge keeps the left edge crowded, so the join of what a leaf push leaves and a sound tree is sound.
-use Prim.Native.Nat.{ℕ, zero, suc, _+_, _-_, _*_, _<_, _≤_}
-use mathlib.Core.Path.{_≡_, refl, _∙_, ap}
+use Prim.Native.Nat.{ℕ, zero, suc, _+_, _*_, _<_, _≤_}
+use mathlib.Core.Path.{_≡_, refl}
 use mathlib.Core.List.{List, [], _∷_, _++_, append-nil}
 use native.Mathlib.Omega.{arith}
 use native.Mathlib.Decide.{decLe}
 use lib.ListN.{length, take, length-append, length-take}
-use Rattle.lists.specs.Ends.{firstOr, rest, init, length-init, length-rest, first-join, first-init, first-take}
-use Rattle.lists.specs.Alls.{All, all-weak, all-by-last}
-use Rattle.lists.specs.Sums.{sum, sum-all, sum-by-first, sum-join}
+use Rattle.lists.specs.Ends.{firstOr, rest, length-init, length-rest, first-join, first-init, first-take}
+use Rattle.lists.specs.Alls.{All, all-weak}
+use Rattle.lists.specs.Sums.{sum, sum-join}
 use Rattle.lists.specs.Cuts.{ceil, ceil-le, ceil-ge}
 use Rattle.rules.specs.Trees.{Tree, Slot, nothing, count, others, lastKid, firstKid, laterKids, Root}
 use Rattle.rules.specs.Rules.{build, pour, repack, ascend, Meet, leaves, level, leftTaller, rightTaller, meet, merge, join}
-use Rattle.rules.specs.Shape.{Tidy, Edge, Kinds, Packed, Crowded, Front, Top, Wide, Sound}
+use Rattle.rules.specs.Shape.{CountFits, Edge, Kinds, Packed, Crowded, Front, Top, Wide, Sound}
 use Rattle.rules.specs.Dense.{tidy-edge, tidy-kinds}
 use Rattle.rules.specs.Pops.{lower-sound}
 use Rattle.rules.specs.Pours.{repack-full, repack-leaves, pour-cons, pour-length, pour-counts, repack-length, repack-counts}
 use Rattle.rules.specs.Packs.{Small, packed-take, pour-packed, repack-packed, repack-small, crowded}
-use Rattle.rules.specs.MergeNodes.{ascend-counts}
 use Rattle.rules.specs.Rows.{Row, build-row}
-use Rattle.rules.specs.MergeRows.{Sized, edge-sized, tidy-sized, row-sized, sized-sum, row-first, kids-row, level-items, left-items, right-items, merge-row, merge-few}
-
-meet-le : {h k m : ℕ} → Meet h k m → k ≤ m
-meet-le leaves = omega arith
-meet-le (level p) = omega arith
-meet-le (leftTaller p) = let e = meet-le p in omega arith
-meet-le (rightTaller p) = omega arith
+use Rattle.rules.specs.MergeSlots.{meet-le, front-count, first-edge, enough-below, merge-slots}
+use Rattle.rules.specs.MergeRows.{row-sized, sized-sum, row-first, kids-row, level-items, left-items, right-items, merge-row, merge-few}
 
 module _ (S : ℕ) (two : 2 ≤ S) where
   pos : 0 < S
   pos = omega arith
-
-  -- The left edge. A node of S children, fewer than S slots of them free.
-  deficits : (ts : List (List ℕ)) → All (Sized S two zero) ts → sum (count zero) ts + sum (λ t. S - length t) ts ≡ length ts * S
-  unfolding count
-  deficits [] a = omega arith
-  deficits (t ∷ ts) a = let ih = deficits ts (a .1) in let s = a .0 in omega arith
-
-  crowded-sum : (h : ℕ) (ts : List (Tree (suc h))) → length ts ≡ S → All (λ t. count (suc h) t ≡ S) ts → sum (count (suc h)) ts ≡ S * S
-  crowded-sum h ts n p = sum-all (λ t. count (suc h) t ≡ S) (count (suc h)) S (λ t e. e) ts p ∙ ap (λ (x : ℕ). x * S) n
-
-  near-full : (h : ℕ) (ts : List (Tree h)) → All (Sized S two h) ts → length ts ≡ S → Crowded S h ts → S * S < sum (count h) ts + S
-  near-full zero ts a n p =
-      let d = deficits ts a in
-      let q : length ts * S ≡ S * S = ap (λ (x : ℕ). x * S) n in
-      omega arith
-  near-full (suc h) ts a n p = let q = crowded-sum h ts n p in omega arith
-
-  front-count : (h : ℕ) (t : Tree h) → Front S h t → count h t ≡ S
-  unfolding count
-  front-count zero t f = f
-  front-count (suc h) t f = f .0
-
-  kids-sized : (h : ℕ) (t : Tree (suc h)) → Edge S (suc h) t → All (Sized S two h) (t .1)
-  kids-sized h t e = all-by-last (Sized S two h) (nothing h) (t .1) (all-weak (Tidy S h) (Sized S two h) (tidy-sized S two h) (others h t) (e .1)) (edge-sized S two h (lastKid h t) (e .2))
-
-  -- the first child of a node of the left edge
-  first-edge : (h : ℕ) (t : Tree (suc h)) → 2 ≤ length (t .1) → Edge S (suc h) t → Tidy S h (firstKid h t)
-  first-edge h t n e = go (t .1) n (e .1)
-    where
-      go : (ts : List (Tree h)) → 2 ≤ length ts → All (Tidy S h) (init ts) → Tidy S h (firstOr (nothing h) ts)
-      go [] m a = absurd (omega arith)
-      go (x ∷ []) m a = absurd (omega arith)
-      go (x ∷ y ∷ ys) m a = a .0
-
-  -- its slots after a merge are still S
-  enough : (h : ℕ) (r : Tree (suc h)) (x y : ℕ) → Edge S (suc h) r → Front S (suc h) r → S ≤ y → S ≤ ceil (x + y + sum (count h) (laterKids h r)) S
-  enough h r x y b f g =
-      let n = near-full h (r .1) (kids-sized h r b) (f .0) (f .1) in
-      let s = sum-by-first (count h) (nothing h) (r .1) (b .0 .0) in
-      let c = front-count h (firstKid h r) (f .2) in
-      ceil-ge _ S S pos (omega arith)
-
-  -- and above height 1 its children's slots S S
-  enough-below : (h : ℕ) (r : Tree (suc h)) (x y : ℕ) → Edge S (suc h) r → Front S (suc h) r → S ≤ y → 1 ≤ h → S * S ≤ x + y + sum (count h) (laterKids h r)
-  enough-below zero r x y b f g z = absurd (omega arith)
-  enough-below (suc h) r x y b f g z =
-      let n = crowded-sum h (r .1) (f .0) (f .1) in
-      let s = sum-by-first (count (suc h)) (nothing (suc h)) (r .1) (b .0 .0) in
-      let c = front-count (suc h) (firstOr (nothing (suc h)) (r .1)) (f .2) in
-      omega arith
-
-  merge-slots : {h k m : ℕ} (p : Meet h k m) → m ≡ k → (l : Tree h) (r : Tree k) → Edge S h l → Edge S k r → Front S k r → S ≤ sum (count m) (merge S p l r)
-  unfolding merge
-  merge-slots leaves q l r a b f = let e = repack-counts S pos zero (l ∷ r ∷ []) in let c = front-count zero r f in omega arith
-  merge-slots (level {h} p) q l r a b f =
-      let r1 = firstKid h r in
-      let mid = merge S p (lastKid h l) r1 in
-      let e = ascend-counts S pos h (others h l) mid (laterKids h r) in
-      let ih = merge-slots p refl (lastKid h l) r1 (a .2) (tidy-edge S two h r1 (first-edge h r (omega arith) b)) (f .2) in
-      let g = enough h r (sum (count h) (others h l)) (sum (count h) mid) b f ih in
-      omega arith
-  merge-slots (leftTaller p) q l r a b f = let z = meet-le p in absurd (omega arith)
-  merge-slots (rightTaller {k = n} p) q l r a b f =
-      let r1 = firstKid n r in
-      let mid = merge S p l r1 in
-      let e = ascend-counts S pos n [] mid (laterKids n r) in
-      let ih = merge-slots p refl l r1 a (tidy-edge S two n r1 (first-edge n r (omega arith) b)) (f .2) in
-      let g = enough n r (sum (count n) []) (sum (count n) mid) b f ih in
-      omega arith
 
   -- the merged children are led by a node of the left edge: below a root always, else if there are several
   record Lead (h : ℕ) (ts : List (Tree h)) : Type 0 where
@@ -121,26 +46,26 @@ module _ (S : ℕ) (two : 2 ≤ S) where
     lead : Lead (suc h) (ascend S h ls mid rs)
     front : S ≤ sum (count (suc h)) (ascend S h ls mid rs) → (1 ≤ h → S * S ≤ sum (count h) (ls ++ mid ++ rs)) → Front S (suc h) (firstOr (nothing (suc h)) (ascend S h ls mid rs))
 
-  some-more : (h : ℕ) (ts : List (Tree h)) → 1 ≤ length ts → All (Sized S two h) ts → 1 ≤ length (repack S h ts)
+  some-more : (h : ℕ) (ts : List (Tree h)) → 1 ≤ length ts → All (CountFits S h) ts → 1 ≤ length (repack S h ts)
   some-more h ts n a =
       let s = sized-sum S two h ts a in
       let e = repack-length S pos h ts in
       let c : 1 ≤ ceil (sum (count h) ts) S = let z = s .0 in ceil-ge _ 1 S pos (omega arith) in
       omega arith
 
-  leads-top : (h : ℕ) (ts : List (Tree h)) → 2 ≤ length ts → All (Sized S two h) ts → Front S h (firstOr (nothing h) ts) → Top S (suc h) (firstOr (nothing (suc h)) (pour S (suc h) (repack S h ts)))
+  leads-top : (h : ℕ) (ts : List (Tree h)) → 2 ≤ length ts → All (CountFits S h) ts → Front S h (firstOr (nothing h) ts) → Top S (suc h) (firstOr (nothing (suc h)) (pour S (suc h) (repack S h ts)))
   leads-top h [] n a f = absurd (omega arith)
   leads-top h (t ∷ ts) n a f =
-      let k = repack-full S h t ts (front-count h t f) in
+      let k = repack-full S h t ts (front-count S two h t f) in
       let p : Packed S h (t ∷ repack S h ts) = rw k at (repack-packed S two h (t ∷ ts)) in
       rw k (poured-top h t (repack S h ts) f (some-more h ts (omega arith) (a .1)) p)
 
-  leads-front : (h : ℕ) (ts : List (Tree h)) → 1 ≤ length ts → All (Sized S two h) ts → Front S h (firstOr (nothing h) ts) → S ≤ length (repack S h ts) → (1 ≤ h → S * S ≤ sum (count h) ts)
+  leads-front : (h : ℕ) (ts : List (Tree h)) → 1 ≤ length ts → All (CountFits S h) ts → Front S h (firstOr (nothing h) ts) → S ≤ length (repack S h ts) → (1 ≤ h → S * S ≤ sum (count h) ts)
       → Front S (suc h) (firstOr (nothing (suc h)) (pour S (suc h) (repack S h ts)))
   leads-front h [] n a f m g = absurd (omega arith)
   leads-front h (t ∷ ts) n a f m g =
-      let k = repack-full S h t ts (front-count h t f) in
-      let c = crowded S two h (repack S h (t ∷ ts)) (repack-packed S two h (t ∷ ts)) (repack-small S two h (t ∷ ts) (all-weak (Sized S two h) (Small S two h) (λ u s. s .1) (t ∷ ts) a)) m (λ z. rw (repack-counts S pos h (t ∷ ts)) (g z)) in
+      let k = repack-full S h t ts (front-count S two h t f) in
+      let c = crowded S two h (repack S h (t ∷ ts)) (repack-packed S two h (t ∷ ts)) (repack-small S two h (t ∷ ts) (all-weak (CountFits S h) (Small S two h) (λ u s. s .1) (t ∷ ts) a)) m (λ z. rw (repack-counts S pos h (t ∷ ts)) (g z)) in
       let p : Crowded S h (take S (t ∷ repack S h ts)) = rw k at c in
       rw k (poured-front h t (repack S h ts) f (rw k at m) p)
 
@@ -226,18 +151,18 @@ module _ (S : ℕ) (two : 2 ≤ S) where
   merge-front (level {h} p) q l r a w b k f =
       let r1 = firstKid h r in
       let mid = merge S p (lastKid h l) r1 in
-      let ih = merge-slots p refl (lastKid h l) r1 (a .2) (tidy-edge S two h r1 (first-edge h r (omega arith) b)) (f .2) in
-      level-led p l r a w b k .front (merge-slots (level p) refl l r a b f)
-      (λ z. rw (sum-join (count h) (others h l ++ mid) (laterKids h r), sum-join (count h) (others h l) mid) (enough-below h r (sum (count h) (others h l)) (sum (count h) mid) b f ih z))
+      let ih = merge-slots S two p refl (lastKid h l) r1 (a .2) (tidy-edge S two h r1 (first-edge S two h r (omega arith) b)) (f .2) in
+      level-led p l r a w b k .front (merge-slots S two (level p) refl l r a b f)
+      (λ z. rw (sum-join (count h) (others h l ++ mid) (laterKids h r), sum-join (count h) (others h l) mid) (enough-below S two h r (sum (count h) (others h l)) (sum (count h) mid) b f ih z))
   merge-front (leftTaller p) q l r a w b k f = let z = meet-le p in absurd (omega arith)
   merge-front (rightTaller {k = n} p) q l r a w b k f =
       let r1 = firstKid n r in
-      let d = first-edge n r (omega arith) b in
+      let d = first-edge S two n r (omega arith) b in
       let g = merge-front p refl l r1 a w (tidy-edge S two n r1 d) (tidy-kinds S two n r1 d) (f .2) in
       let mid = merge S p l r1 in
-      let ih = merge-slots p refl l r1 a (tidy-edge S two n r1 d) (f .2) in
-      right-led p l r a b k (omega arith) g .front (merge-slots (rightTaller p) refl l r a b f)
-      (λ z. let e = sum-join (count n) mid (laterKids n r) in let g = enough-below n r 0 (sum (count n) mid) b f ih z in omega arith)
+      let ih = merge-slots S two p refl l r1 a (tidy-edge S two n r1 d) (f .2) in
+      right-led p l r a b k (omega arith) g .front (merge-slots S two (rightTaller p) refl l r a b f)
+      (λ z. let e = sum-join (count n) mid (laterKids n r) in let g = enough-below S two n r 0 (sum (count n) mid) b f ih z in omega arith)
 
   merge-lead : {h k m : ℕ} (p : Meet h k m) (l : Tree h) (r : Tree k) → Edge S h l → Wide S h l → Edge S k r → Kinds S k r → Top S k r → Lead m (merge S p l r)
   unfolding merge
@@ -248,7 +173,7 @@ module _ (S : ℕ) (two : 2 ≤ S) where
       leads h (others h l) mid [] (items-left h l mid [] w (merge-few S two p (lastKid h l) r (a .2) b k .0)) (left-items S two p l r a (merge-row S two p (lastKid h l) r (a .2) b k)) .lead
   merge-lead (rightTaller {k = n} p) l r a w b k f =
       let r1 = firstKid n r in
-      let d = first-edge n r (f .0) b in
+      let d = first-edge S two n r (f .0) b in
       right-led p l r a b k (f .0) (merge-front p refl l r1 a w (tidy-edge S two n r1 d) (tidy-kinds S two n r1 d) (f .2)) .lead
 
   merge-packed : {h k m : ℕ} (p : Meet h k m) (l : Tree h) (r : Tree k) → Packed S m (merge S p l r)

@@ -10,7 +10,7 @@ use Rattle.lists.specs.Sums.{sum, sum-least, sum-most}
 use Rattle.lists.specs.Cuts.{ceil, ceil-le, ceil-ge}
 use Rattle.rules.specs.Trees.{Tree, nothing, count, others, lastKid, firstKid, laterKids}
 use Rattle.rules.specs.Rules.{Meet, leaves, level, leftTaller, rightTaller, repack, ascend, merge}
-use Rattle.rules.specs.Shape.{Tidy, Edge, Kinds}
+use Rattle.rules.specs.Shape.{CountFits, Tidy, Edge, Kinds}
 use Rattle.rules.specs.Dense.{tidy-edge, tidy-kinds}
 use Rattle.rules.specs.Pours.{pour-length, repack-length}
 use Rattle.rules.specs.Rows.{Row, tidy-row, row-join, row-of, repack-tidy, ascend-tidy, ascend-row}
@@ -75,26 +75,23 @@ module _ (S : ℕ) (two : 2 ≤ S) where
       ascend-row S two n [] _ (laterKids n r) (right-items p l r a b k (merge-row p l (firstKid n r) a))
 
   -- "grouped by 32 under at most two nodes"
-  abbrev pub Sized : (h : ℕ) → Tree h → Type 0
-  Sized h t = (1 ≤ count h t) × (count h t ≤ S)
-
-  pub edge-sized : (h : ℕ) (t : Tree h) → Edge S h t → Sized h t
+  pub edge-sized : (h : ℕ) (t : Tree h) → Edge S h t → CountFits S h t
   unfolding count
   edge-sized zero t e = e
   edge-sized (suc h) t e = e .0
 
-  pub tidy-sized : (h : ℕ) (t : Tree h) → Tidy S h t → Sized h t
+  pub tidy-sized : (h : ℕ) (t : Tree h) → Tidy S h t → CountFits S h t
   tidy-sized h t d = edge-sized h t (tidy-edge S two h t d)
 
-  pub row-sized : (h : ℕ) (ts : List (Tree h)) → Row S h ts → All (Sized h) ts
+  pub row-sized : (h : ℕ) (ts : List (Tree h)) → Row S h ts → All (CountFits S h) ts
   row-sized h [] r = tt
   row-sized h (t ∷ []) r = (edge-sized h t (r .0), tt)
   row-sized h (t ∷ u ∷ us) r = (tidy-sized h t (r .0), row-sized h (u ∷ us) (r .1))
 
-  pub sized-sum : (h : ℕ) (ts : List (Tree h)) → All (Sized h) ts → (length ts ≤ sum (count h) ts) × (sum (count h) ts ≤ length ts * S)
+  pub sized-sum : (h : ℕ) (ts : List (Tree h)) → All (CountFits S h) ts → (length ts ≤ sum (count h) ts) × (sum (count h) ts ≤ length ts * S)
   sized-sum h ts a =
-      let l = sum-least (Sized h) (count h) 1 (λ t s. s .0) ts a in
-      let u = sum-most (Sized h) (count h) S (λ t s. s .1) ts a in
+      let l = sum-least (CountFits S h) (count h) 1 (λ t s. s .0) ts a in
+      let u = sum-most (CountFits S h) (count h) S (λ t s. s .1) ts a in
       (omega arith, u)
 
   abbrev pub Few : {A : Type 0} → List A → Type 0
