@@ -44,7 +44,7 @@ module _ (S : ℕ) where
   BranchFits (suc h) t = t .0 ≡ false → All (FullDown h) (others h t) × (size (suc h) t % S ≡ 0)
 
   -- A well formed tree. (That kinds fit levels and all leaves are at shift 0 is in the type of trees.)
-  pub record WellFormed (h : ℕ) (t : Tree h) : Type 0 where
+  pub record TreeFormed (h : ℕ) (t : Tree h) : Type 0 where
     pub counts : EveryNode (CountFits S) h t
     pub root : RootFits h t
     pub branches : EveryNode BranchFits h t
@@ -128,7 +128,7 @@ module _ (S : ℕ) where
     sizes-rise zero t c = tt
     sizes-rise (suc h) t c = ((λ e. rising h 0 (t .1) (c .1)), all-weak (EveryNode (CountFits S) h) (EveryNode SizesRise h) (sizes-rise h) (t .1) (c .1))
 
-    pub sound-formed : (h : ℕ) (t : Tree h) → Sound S h t → WellFormed h t
+    pub sound-formed : (h : ℕ) (t : Tree h) → Sound S h t → TreeFormed h t
     sound-formed h t s =
         let c = edge-counts h t (s .edge) in
         record {
