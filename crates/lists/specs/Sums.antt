@@ -7,6 +7,7 @@ use lib.ListN.{length, take, drop, getD, set, replicate, length-append, take-app
 use Rattle.lists.specs.Ends.{init, lastOr, firstOr, rest, modify}
 use Rattle.lists.specs.Alls.{All}
 
+-- the kit's `flatMap`, but open everywhere: types compute with it
 abbrev pub concatMap : {A B : Type 0} → (A → List B) → List A → List B
 concatMap f [] = []
 concatMap f (x ∷ xs) = f x ++ concatMap f xs
