@@ -1,0 +1,4 @@
+pub mod Ends
+pub mod Alls
+pub mod Sums
+pub mod Cuts

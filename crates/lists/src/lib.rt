@@ -1,0 +1,4 @@
+// Laws about plain lists: theory only, in specs/.
+pub fn theory() -> u64 {
+    0
+}
