@@ -1,0 +1,23 @@
+use denote.Ref.{now}
+use mathlib.Core.Path.{sym}
+use lib.ListN.{List·getD-eq-default}
+use borrow.Author.Needs.{needs}
+use Rattle.merging.proofs.areas.get.Statement.{statement}
+use Rattle.merging.proofs.areas.get.Tie as tie
+use Rattle.merging.proofs.areas.get.Reads as reads
+use Rattle.merging.proofs.areas.get.Lts as lts
+
+mul-result : tie.Need-mul-result
+mul-result c = search needs
+
+shared-slice-read-result : tie.Need-shared-slice-read-result
+shared-slice-read-result c = search needs
+
+returns : tie.Need-returns
+returns c = search needs
+
+returns-2 : tie.Need-returns-2
+returns-2 c = sym (List·getD-eq-default (now (c .before .args .work)) 0 (c .if1 .left))
+
+pub get-spec : {M : Type 1} → statement M
+get-spec = tie.close (tie.spec mul-result shared-slice-read-result returns returns-2)

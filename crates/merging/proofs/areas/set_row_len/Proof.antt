@@ -1,0 +1,23 @@
+use Rattle.merging.specs.Areas.{setRowLen}
+use borrow.Author.Needs.{needs}
+use Rattle.merging.proofs.areas.set_row_len.Statement.{statement}
+use Rattle.merging.proofs.areas.set_row_len.Tie as tie
+use Rattle.merging.proofs.areas.set_row_len.Reads as reads
+use Rattle.merging.proofs.areas.set_row_len.Lts as lts
+use Rattle.merging.proofs.areas.put.Reads as put-reads
+
+mul-put : tie.Need-mul-put
+mul-put c = search needs
+
+put-requires : tie.Need-put-requires
+put-requires c κs = search needs
+
+same-length : tie.Need-same-length
+same-length c = search needs
+
+returns : tie.Need-returns
+unfolding setRowLen
+returns c = rw (← (c .before .before .put .ensures)) (rw (c .before .before .put .ensures))
+
+pub set-row-len-spec : {M : Type 1} → statement M
+set-row-len-spec = tie.close (tie.spec mul-put put-requires same-length returns)

@@ -1,0 +1,70 @@
+use borrow.Author.Needs.{needs}
+use Rattle.merging.proofs.plans.with_others.Statement.{statement}
+use Rattle.merging.proofs.plans.with_others.Tie as tie
+use Rattle.merging.proofs.plans.with_others.Reads as reads
+use Rattle.merging.proofs.plans.with_others.Lts as lts
+use Rattle.blocks.proofs.count.Reads as count-reads
+use Rattle.levels.proofs.Index.less.Reads as less-reads
+use Rattle.merging.proofs.plans.counts.Reads as counts-reads
+use Rattle.std.proofs.num.wrapping_add_usize.Reads as wrapping-add-usize-reads
+
+enum-told : tie.Need-enum-told
+enum-told c = search needs
+
+enum-known-o : tie.Need-enum-known-o
+enum-known-o c = search needs
+
+less-requires : tie.Need-less-requires
+less-requires c κs = search needs
+
+wrapping-add-usize-requires : tie.Need-wrapping-add-usize-requires
+wrapping-add-usize-requires c κs = search needs
+
+counts-requires : tie.Need-counts-requires
+counts-requires c κs = search needs
+
+wrapping-add-usize-requires-2 : tie.Need-wrapping-add-usize-requires-2
+wrapping-add-usize-requires-2 c κs = search needs
+
+wrapping-add-usize-requires-3 : tie.Need-wrapping-add-usize-requires-3
+wrapping-add-usize-requires-3 c κs = search needs
+
+enum-known-o-2 : tie.Need-enum-known-o-2
+enum-known-o-2 c = search needs
+
+count-requires : tie.Need-count-requires
+count-requires c κs = search needs
+
+wrapping-add-usize-requires-4 : tie.Need-wrapping-add-usize-requires-4
+wrapping-add-usize-requires-4 c κs = search needs
+
+wrapping-add-usize-requires-5 : tie.Need-wrapping-add-usize-requires-5
+wrapping-add-usize-requires-5 c κs = search needs
+
+returns : tie.Need-returns
+returns c = ?
+
+returns-2 : tie.Need-returns-2
+returns-2 c = ?
+
+returns-3 : tie.Need-returns-3
+returns-3 c = ?
+
+pub with-others-spec : {M : Type 1} → statement M
+with-others-spec =
+    tie.close
+    (tie.spec
+    enum-told
+    enum-known-o
+    less-requires
+    wrapping-add-usize-requires
+    counts-requires
+    wrapping-add-usize-requires-2
+    wrapping-add-usize-requires-3
+    enum-known-o-2
+    count-requires
+    wrapping-add-usize-requires-4
+    wrapping-add-usize-requires-5
+    returns
+    returns-2
+    returns-3)
