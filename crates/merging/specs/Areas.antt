@@ -39,6 +39,6 @@ flatAt t = 3264 + t
 -- zeros before the rest of a list, with one more
 pub cleared-more : (w : List ℕ) (i : ℕ) → i < length w → set (replicate i 0 ++ drop i w) i 0 ≡ replicate (i + 1) 0 ++ drop (i + 1) w
 cleared-more w i h =
-    let z = replicate i 0 in
-    rw (← (replicate-append-replicate i 1 0), add-one, drop-cons w i 0 h, append-assoc z (0 ∷ []) (drop (suc i) w))
+    let z : List ℕ = replicate i 0 in
+    rw (← (replicate-append-replicate {A = ℕ} i 1 0), add-one, drop-cons w i 0 h, append-assoc z (0 ∷ []) (drop (suc i) w))
     (set-at z (getD w i 0) (drop (suc i) w) 0 i (length-replicate i 0))

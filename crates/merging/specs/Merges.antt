@@ -4,6 +4,7 @@ use mathlib.Core.Path.{_≡_, refl}
 use mathlib.Core.List.{List, [], _∷_}
 use native.Mathlib.Numerals.{add-one}
 use native.Mathlib.Omega.{arith}
+use borrow.Author.Tests.{lt-ltb, le-ltb}
 use lib.Dec.{ltb}
 use lib.ListN.{length, getD, set, replicate}
 use lib.Seq.{sets}
@@ -66,10 +67,11 @@ liftLeaves ws st w xs l r =
     let n = countOf ws r in
     let m = countOf ws l in
     pick (ltb 0 t)
-    (record { n = t + n; state = onChain st r }, releaseOf ws st r, liftLeaf ws (liftTail w xs) r t)
-    (record { n = m + n; state = onChain (onChain st l) r },
-    releaseOf (releaseOf ws st l) (onChain st l) r,
-    liftLeaf ws (liftLeaf ws w l 0) r m)
+    (record { n = t + n; state = onChain st r }, releaseOf ws st r, liftLeaf ws (liftTail w xs) r t) (
+      record { n = m + n; state = onChain (onChain st l) r },
+      releaseOf (releaseOf ws st l) (onChain st l) r,
+      liftLeaf ws (liftLeaf ws w l 0) r m,
+    )
 
 -- the spines from height j down: what goes up to height j
 unfoldable pub mergeLevel : ℕ → List ℕ → State → List ℕ → List ℕ → Spine → Spine → Out
@@ -81,7 +83,7 @@ mergeLevel (suc k) ws st w xs l r =
     insertOf (m .1) (m .0 .state) (m .2) k (m .0 .n)
 
 -- what was packed at a height as a tree: its root is the first node that goes up
-abbrev asTree : ℕ → Out → Merged × List ℕ × List ℕ
+abbrev pub asTree : ℕ → Out → Merged × List ℕ × List ℕ
 asTree height o = (record { root = getD (o .2) (nodeAt 0) 0; shift = record { 0 = min height 48 * 5 }; state = o .0 .state }, o .1, o .2)
 
 -- "A merged root of one child is replaced by the child; otherwise the shift rises by 5."
@@ -91,6 +93,10 @@ mergeOf ws st w xs p =
     let m = mergeLevel top ws st (replicate (length w) 0) xs (p .left) (p .right) in
     let one = insertOf (m .1) (m .0 .state) (m .2) top (m .0 .n) in
     pick (ltb (one .0 .n) 2) (asTree top one) (asTree (top + 1) (insertOf (one .1) (one .0 .state) (one .2) (top + 1) (one .0 .n)))
+
+pub merged-same : (m : Merged) (root shift : ℕ) (st : State) → m .root ≡ root → m .shift .0 ≡ shift → m .state ≡ st
+    → m ≡ record { root = root; shift = record { 0 = shift }; state = st }
+merged-same m root shift st e f g = λ i. record { root = e i; shift = record { 0 = f i }; state = g i }
 
 -- The laws by which loops and recursion go on.
 module _ (ws w : List ℕ) (j b n i : ℕ) where
@@ -139,3 +145,14 @@ module _ (ws : List ℕ) (st : State) (w xs : List ℕ) (l r : Spine) where
       → mergeLevel j ws st w xs l r ≡ insertOf (m .1) (m .0 .state) (m .2) (j - 1) (m .0 .n)
   merge-up zero h p s m e f g = absurd (omega arith)
   merge-up (suc j) h p s m e f g = let d : suc j - 1 ≡ j = omega arith in rw d (merge-suc j p s m (rw d at e) (rw d at f) (rw d at g))
+
+module _ (ws : List ℕ) (st : State) (w xs : List ℕ) (p : Pair) (v : List ℕ) (m one : Out) (e : v ≡ replicate (length w) 0)
+    (f : m ≡ mergeLevel (p .top) ws st v xs (p .left) (p .right)) (g : one ≡ insertOf (m .1) (m .0 .state) (m .2) (p .top) (m .0 .n)) where
+  pub merge-one : one .0 .n < 2 → mergeOf ws st w xs p ≡ asTree (p .top) one
+  unfolding mergeOf
+  merge-one h = rw (← e, ← f, ← g, lt-ltb _ _ h)
+
+  pub merge-two : 2 ≤ one .0 .n → (two : Out) → two ≡ insertOf (one .1) (one .0 .state) (one .2) (p .top + 1) (one .0 .n)
+      → mergeOf ws st w xs p ≡ asTree (p .top + 1) two
+  unfolding mergeOf
+  merge-two h two d = rw (← e, ← f, ← g, le-ltb _ _ h, ← d)

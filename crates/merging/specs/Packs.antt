@@ -2,6 +2,7 @@
 use Prim.Native.Nat.{ℕ, zero, suc, _+_, _-_, _*_, _/_, _%_, _<_, _≤_, min}
 use mathlib.Core.Path.{_≡_, refl}
 use mathlib.Core.List.{List}
+use mathlib.Core.Bool.{Bool, false}
 use native.Mathlib.Numerals.{add-one}
 use native.Mathlib.Omega.{arith}
 use borrow.Author.Tests.{lt-ltb, le-ltb}
@@ -92,15 +93,23 @@ pourOf ws st w j k total out =
     let r = releaseItems ws st w j (k + (total + 31) / 32) in
     pourIn (r .1) (r .0) w j k total out
 
+-- the first k nodes of row j go up, and after them new nodes of the c from below
+unfoldable pub raiseNodes : List ℕ → State → List ℕ → ℕ → ℕ → ℕ → State × List ℕ × List ℕ
+raiseNodes ws st w j k c =
+    let p = pourIn ws st (keepOf (layNodes w 0 c 0) j (k - 0) 0 0) j (rowLen w j) c k in
+    (p .0 .state, p .1, p .2)
+
+-- the nodes k..l of row j go up after the first out, and after them what the others are poured into
+unfoldable pub raiseRest : List ℕ → State → List ℕ → ℕ → ℕ → ℕ → ℕ → Out
+raiseRest ws st w j k l out =
+    let q = pourOut ws (keepOf w j (l - k) k out) j l 0 0 in
+    pourOf ws st (q .1) j l (q .0) (out + (l - k))
+
 -- the c nodes from below go whole between the first k nodes of row j and the others, of which full ones stay whole
 unfoldable pub insertWhole : List ℕ → State → List ℕ → ℕ → ℕ → ℕ → Out
 insertWhole ws st w j k c =
-    let n = rowLen w j in
-    let l = leadFrom ws w j (n - k) k in
-    let more = (c + 31) / 32 in
-    let p = pourIn ws st (keepOf (layNodes w 0 c 0) j (k - 0) 0 0) j n c k in
-    let q = pourOut (p .1) (keepOf (p .2) j (l - k) k (k + more)) j l 0 0 in
-    pourOf (p .1) (p .0 .state) (q .1) j l (q .0) (l + more)
+    let p = raiseNodes ws st w j k c in
+    raiseRest (p .1) (p .0) (p .2) j k (leadFrom ws w j (rowLen w j - k) k) (k + (c + 31) / 32)
 
 -- the c nodes from below go between the slots, q after those of the first k nodes of row j, and all from there on is poured
 unfoldable pub insertPoured : List ℕ → State → List ℕ → ℕ → ℕ → ℕ → ℕ → Out
@@ -108,20 +117,28 @@ insertPoured ws st w j k q c =
     let p = pourOut ws (layNodes w q c 0) j k q c in
     pourOf ws st (keepOf (p .1) j (k - 0) 0 0) j k (p .0) k
 
+-- whether c nodes from below at place p, after k full nodes, leave whole what follows them
+unfoldable pub staysWhole : ℕ → ℕ → ℕ → Bool
+staysWhole k p c = pick (eqb (k * 32) p) (eqb (c % 32) 0) false
+
 -- the nodes from below at the place of row j
 unfoldable pub insertOf : List ℕ → State → List ℕ → ℕ → ℕ → Out
 insertOf ws st w j c =
     let d = min c 64 in
     let p = rowPlace w j in
     let k = leadFrom ws w j (min (p / 32) (rowLen w j) - 0) 0 in
-    pick (eqb (k * 32) p) (pick (eqb (d % 32) 0) (insertWhole ws st w j k d) (insertPoured ws st w j k (p - k * 32) d))
-    (insertPoured ws st w j k (p - k * 32) d)
+    pick (staysWhole k p d) (insertWhole ws st w j k d) (insertPoured ws st w j k (p - k * 32) d)
 
 -- the nodes of row j packed: full ones at the start stay whole, the others are poured
 unfoldable pub squeezeOf : List ℕ → State → List ℕ → ℕ → State × List ℕ × List ℕ
 squeezeOf ws st w j =
     let p = insertWhole ws st w j 0 0 in
     (p .0 .state, p .1, setRowLen (p .2) j (p .0 .n))
+
+-- an answer and two lists that are those of a triple, each by itself
+pub triple-same : {A : Type 0} (t : A × List ℕ × List ℕ) (a : A) (xs ys : List ℕ) → (a ≡ t .0) × ((xs ≡ t .1) × (ys ≡ t .2))
+    → _≡_ {A = A × List ℕ × List ℕ} (a, xs, ys) t
+triple-same t a xs ys e = λ i. (e .0 i, e .1 .0 i, e .1 .1 i)
 
 -- The laws by which the loops go on.
 module _ (ws w : List ℕ) (j n i : ℕ) where

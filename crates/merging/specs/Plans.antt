@@ -66,6 +66,11 @@ module _ (ws : List ℕ) (b n i sum : ℕ) where
   unfolding countsFrom
   counts-at h = let e : n - i ≡ suc (n - (i + 1)) = omega arith in rw (e, add-one)
 
+pub plan-bottom : (j : ℕ) (ws : List ℕ) (l : Spine) (tail : ℕ) (r : Spine) → j ≡ 0 → planLevel j ws l tail r ≡ planLeaves ws l tail r
+unfolding planLevel
+plan-bottom zero ws l tail r e = refl
+plan-bottom (suc j) ws l tail r e = absurd (omega arith)
+
 pub plan-up : (j : ℕ) (ws : List ℕ) (l : Spine) (tail : ℕ) (r : Spine) → 0 < j
     → planLevel j ws l tail r ≡ packedOf (withOthers ws (withOthers ws (planLevel (j - 1) ws (belowOf ws l j) tail (belowOf ws r j)) (othersOf ws l j)) (othersOf ws r j))
 unfolding planLevel

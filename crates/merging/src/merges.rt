@@ -126,10 +126,7 @@ fn lift_leaves(
         lift_tail(work, tail);
         lift_leaf(pool, work, r, t);
         let s = blocks::release(pool, st, r);
-        return Packed {
-            n: t + n,
-            state: s,
-        };
+        return Packed { n: t + n, state: s };
     }
     let m = blocks::count(pool, l);
     lift_leaf(pool, work, l, 0);

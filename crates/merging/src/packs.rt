@@ -1,7 +1,7 @@
 // Packing the nodes of one height.
 ghost use mathlib.Core.Path.{_≡_};
-ghost use Prim.Native.Nat.{_<_, _≤_, _-_, _/_, _+_};
-ghost use Rattle.merging.specs.Packs.{leadFrom, layNodes, nextFlat, pourOut, keepOf, blockFor, writeNode, pourIn, releaseItems, pourOf, insertWhole, insertPoured, insertOf, squeezeOf};
+ghost use Prim.Native.Nat.{_<_, _≤_, _-_, _+_, max};
+ghost use Rattle.merging.specs.Packs.{leadFrom, layNodes, nextFlat, pourOut, keepOf, blockFor, writeNode, pourIn, releaseItems, pourOf, staysWhole, raiseNodes, raiseRest, insertWhole, insertPoured, insertOf, squeezeOf};
 use crate::areas;
 use blocks::Got;
 use blocks::State;
@@ -16,7 +16,7 @@ pub struct Packed {
 // The full nodes of row j from k on, before the first that is not full, and before node end.
 fn leading(pool: &[u64], work: &[u64], j: usize, k: usize, end: usize) -> usize
     requires { ⌜ (j < 50) × ((k ≤ 62) × (end ≤ 62)) ⌝ }
-    ensures { λ r. ⌜ (r ≡ leadFrom (now (pool .entry)) (now (work .entry)) j (end - k) k) × ((k ≤ r) × (r ≤ 62)) ⌝ }
+    ensures { λ r. ⌜ (r ≡ leadFrom (now (pool .entry)) (now (work .entry)) j (end - k) k) × ((k ≤ r) × (r ≤ max k end)) ⌝ }
 {
     let mut i = k;
     while i < end {
@@ -182,6 +182,36 @@ fn pour(
     pour_in(pool, s, work, j, k, total, out)
 }
 
+// The first k nodes of row j go up, and after them new nodes of the c from below.
+fn raise_nodes(pool: &mut [u64], st: State, work: &mut [u64], j: usize, k: usize, c: usize) -> State
+    requires { ⌜ (j < 50) × ((k ≤ 62) × (c ≤ 64)) ⌝ }
+    ensures { λ r. ⌜ (r ≡ raiseNodes (now (pool .entry)) st (now (work .entry)) j k c .0) × ((now (pool .exit) ≡ raiseNodes (now (pool .entry)) st (now (work .entry)) j k c .1) × (now (work .exit) ≡ raiseNodes (now (pool .entry)) st (now (work .entry)) j k c .2)) ⌝ }
+{
+    let n = areas::row_len(work, j);
+    lay_nodes(work, 0, c);
+    keep(work, j, 0, k, 0);
+    let p = pour_in(pool, st, work, j, n, c, k);
+    p.state
+}
+
+// The nodes k..l of row j go up after the first out, and after them what the others are poured into.
+fn raise_rest(
+    pool: &mut [u64],
+    st: State,
+    work: &mut [u64],
+    j: usize,
+    k: usize,
+    l: usize,
+    out: usize,
+) -> Packed
+    requires { ⌜ (j < 50) × ((k ≤ l) × ((l ≤ 62) × (out ≤ 100))) ⌝ }
+    ensures { λ r. ⌜ (r ≡ raiseRest (now (pool .entry)) st (now (work .entry)) j k l out .0) × ((now (pool .exit) ≡ raiseRest (now (pool .entry)) st (now (work .entry)) j k l out .1) × (now (work .exit) ≡ raiseRest (now (pool .entry)) st (now (work .entry)) j k l out .2)) ⌝ }
+{
+    keep(work, j, k, l, out);
+    let t = pour_out(pool, work, j, l, 0, 0);
+    pour(pool, st, work, j, l, t, out + (l - k))
+}
+
 // The c nodes from below go whole between the first k nodes of row j and the others, of which full ones stay whole.
 fn insert_whole(
     pool: &mut [u64],
@@ -194,15 +224,10 @@ fn insert_whole(
     requires { ⌜ (j < 50) × ((k ≤ 62) × (c ≤ 64)) ⌝ }
     ensures { λ r. ⌜ (r ≡ insertWhole (now (pool .entry)) st (now (work .entry)) j k c .0) × ((now (pool .exit) ≡ insertWhole (now (pool .entry)) st (now (work .entry)) j k c .1) × (now (work .exit) ≡ insertWhole (now (pool .entry)) st (now (work .entry)) j k c .2)) ⌝ }
 {
-    let n = areas::row_len(work, j);
-    let l = leading(pool, work, j, k, n);
-    lay_nodes(work, 0, c);
-    keep(work, j, 0, k, 0);
-    let p = pour_in(pool, st, work, j, n, c, k);
+    let l = leading(pool, work, j, k, areas::row_len(work, j));
     let more = (c + 31) / 32;
-    keep(work, j, k, l, k + more);
-    let t = pour_out(pool, work, j, l, 0, 0);
-    pour(pool, p.state, work, j, l, t, l + more)
+    let s = raise_nodes(pool, st, work, j, k, c);
+    raise_rest(pool, s, work, j, k, l, k + more)
 }
 
 // The c nodes from below go between the slots, q after those of the first k nodes of row j, and all from there on is poured.
@@ -224,6 +249,17 @@ fn insert_poured(
     pour(pool, st, work, j, k, t, k)
 }
 
+// Whether c nodes from below at place p, after k full nodes, leave whole what follows them.
+fn stays_whole(k: usize, p: usize, c: usize) -> bool
+    requires { ⌜ k ≤ 62 ⌝ }
+    ensures { λ r. ⌜ r ≡ staysWhole k p c ⌝ }
+{
+    if k * 32 == p {
+        return c % 32 == 0;
+    }
+    false
+}
+
 // Puts the first nodes from below, c of them and 64 at most, at the place of row j. The nodes of that height go up.
 pub fn insert(pool: &mut [u64], st: State, work: &mut [u64], j: usize, c: usize) -> Packed
     requires { ⌜ j < 50 ⌝ }
@@ -233,10 +269,8 @@ pub fn insert(pool: &mut [u64], st: State, work: &mut [u64], j: usize, c: usize)
     let p = areas::row_place(work, j);
     let end = areas::least(p / 32, areas::row_len(work, j));
     let k = leading(pool, work, j, 0, end);
-    if k * 32 == p {
-        if d % 32 == 0 {
-            return insert_whole(pool, st, work, j, k, d);
-        }
+    if stays_whole(k, p, d) {
+        return insert_whole(pool, st, work, j, k, d);
     }
     insert_poured(pool, st, work, j, k, p - k * 32, d)
 }

@@ -1,13 +1,9 @@
+-- `merging::areas::add_item`: the stores are the definition's, where there is room.
+use borrow.Author.Needs.{needs}
 use borrow.Author.Tests.{le-ltb, lt-ltb}
 use Rattle.merging.specs.Areas.{addItem}
-use borrow.Author.Needs.{needs}
 use Rattle.merging.proofs.areas.add_item.Statement.{statement}
 use Rattle.merging.proofs.areas.add_item.Tie as tie
-use Rattle.merging.proofs.areas.add_item.Reads as reads
-use Rattle.merging.proofs.areas.add_item.Lts as lts
-use Rattle.merging.proofs.areas.put.Reads as put-reads
-use Rattle.merging.proofs.areas.row_len.Reads as row-len-reads
-use Rattle.merging.proofs.areas.set_row_len.Reads as set-row-len-reads
 
 row-len-requires : tie.Need-row-len-requires
 row-len-requires c κs = search needs

@@ -1,19 +1,13 @@
-use mathlib.Core.List.{append-nil}
-use lib.ListN.{length-set, drop-of-length-le}
-use Rattle.merging.specs.Areas.{cleared-more}
-use mathlib.Core.List.{_++_}
-use lib.ListN.{drop}
-use Prim.Native.Nat.{ℕ, _≤_, _<_, _-_, _+_, _*_}
-use mathlib.Core.Path.{_≡_, refl, sym, _∙_, ap}
+-- `merging::areas::clear`: after i turns the first i words are zero and the rest is as it was.
+use Prim.Native.Nat.{_≤_, _<_, _-_}
+use mathlib.Core.List.{[], append-nil, _++_}
+use mathlib.Core.Path.{_≡_, refl, _∙_}
 use native.Mathlib.Omega.{arith}
-use lib.ListN.{length}
-use borrow.Author.Fill.{fill-none, fill-more}
-use lib.ListN.{replicate}
+use lib.ListN.{length-set, drop-of-length-le, drop, length, replicate}
 use borrow.Author.Needs.{needs}
+use Rattle.merging.specs.Areas.{cleared-more}
 use Rattle.merging.proofs.areas.clear.Statement.{statement}
 use Rattle.merging.proofs.areas.clear.Tie as tie
-use Rattle.merging.proofs.areas.clear.Reads as reads
-use Rattle.merging.proofs.areas.clear.Lts as lts
 
 abbrev Inv-loop : tie.InvT-loop
 Inv-loop work₀ i₀ work i = (i ≤ length work₀) × (length work ≡ length work₀) × (work ≡ replicate i 0 ++ drop i work₀)
@@ -51,7 +45,8 @@ returns c =
     let l = c .before .loop in
     let w = c .before .before .args .work .now in
     let e : l .i ≡ length w = omega (arith, l .inv .1) in
-    l .inv .2 ∙ rw (e, drop-of-length-le w (omega arith)) (append-nil (replicate (length w) 0))
+    let d : drop (length w) w ≡ [] = drop-of-length-le w {i = length w} (omega arith) in
+    l .inv .2 ∙ rw (e, d) (append-nil (replicate (length w) 0))
 
 pub clear-spec : {M : Type 1} → statement M
 clear-spec =

@@ -1,11 +1,10 @@
-use denote.Ref.{now}
+-- `merging::areas::get`: past the end both are 0.
 use mathlib.Core.Path.{sym}
 use lib.ListN.{List·getD-eq-default}
+use denote.Ref.{now}
 use borrow.Author.Needs.{needs}
 use Rattle.merging.proofs.areas.get.Statement.{statement}
 use Rattle.merging.proofs.areas.get.Tie as tie
-use Rattle.merging.proofs.areas.get.Reads as reads
-use Rattle.merging.proofs.areas.get.Lts as lts
 
 mul-result : tie.Need-mul-result
 mul-result c = search needs

@@ -1,10 +1,8 @@
-use Rattle.merging.specs.Areas.{itemOf}
+-- `merging::areas::item`: the word read is the definition's.
 use borrow.Author.Needs.{needs}
+use Rattle.merging.specs.Areas.{itemOf}
 use Rattle.merging.proofs.areas.item.Statement.{statement}
 use Rattle.merging.proofs.areas.item.Tie as tie
-use Rattle.merging.proofs.areas.item.Reads as reads
-use Rattle.merging.proofs.areas.item.Lts as lts
-use Rattle.merging.proofs.areas.get.Reads as get-reads
 
 mul-get : tie.Need-mul-get
 mul-get c = search needs

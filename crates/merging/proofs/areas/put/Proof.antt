@@ -1,10 +1,9 @@
+-- `merging::areas::put`: a store past the end leaves the area.
 use mathlib.Core.Path.{sym}
 use lib.Seq.{set-out}
 use borrow.Author.Needs.{needs}
 use Rattle.merging.proofs.areas.put.Statement.{statement}
 use Rattle.merging.proofs.areas.put.Tie as tie
-use Rattle.merging.proofs.areas.put.Reads as reads
-use Rattle.merging.proofs.areas.put.Lts as lts
 
 mul-work : tie.Need-mul-work
 mul-work c = search needs

@@ -1,10 +1,8 @@
-use Rattle.merging.specs.Areas.{setRowLen}
+-- `merging::areas::set_row_len`: the store is the definition's.
 use borrow.Author.Needs.{needs}
+use Rattle.merging.specs.Areas.{setRowLen}
 use Rattle.merging.proofs.areas.set_row_len.Statement.{statement}
 use Rattle.merging.proofs.areas.set_row_len.Tie as tie
-use Rattle.merging.proofs.areas.set_row_len.Reads as reads
-use Rattle.merging.proofs.areas.set_row_len.Lts as lts
-use Rattle.merging.proofs.areas.put.Reads as put-reads
 
 mul-put : tie.Need-mul-put
 mul-put c = search needs

@@ -1,10 +1,8 @@
-use Rattle.merging.specs.Areas.{setRowPlace}
+-- `merging::areas::set_row_place`: the store is the definition's.
 use borrow.Author.Needs.{needs}
+use Rattle.merging.specs.Areas.{setRowPlace}
 use Rattle.merging.proofs.areas.set_row_place.Statement.{statement}
 use Rattle.merging.proofs.areas.set_row_place.Tie as tie
-use Rattle.merging.proofs.areas.set_row_place.Reads as reads
-use Rattle.merging.proofs.areas.set_row_place.Lts as lts
-use Rattle.merging.proofs.areas.put.Reads as put-reads
 
 mul-put : tie.Need-mul-put
 mul-put c = search needs

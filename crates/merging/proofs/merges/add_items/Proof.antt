@@ -1,16 +1,11 @@
-use Prim.Native.Nat.{ℕ, _≤_, _<_, _-_, _+_, _*_}
-use mathlib.Core.Path.{_≡_, refl, sym, _∙_, ap}
-use native.Mathlib.Omega.{arith}
+-- `merging::merges::add_items`: the nodes still to be added, on the area so far, are those of the whole.
+use Prim.Native.Nat.{_-_}
+use mathlib.Core.Path.{_≡_, refl, sym, _∙_}
 use lib.ListN.{length}
-use Rattle.merging.specs.Merges.{addFrom, addItems, add-at, add-end}
 use borrow.Author.Needs.{needs}
+use Rattle.merging.specs.Merges.{addFrom, addItems, add-at, add-end}
 use Rattle.merging.proofs.merges.add_items.Statement.{statement}
 use Rattle.merging.proofs.merges.add_items.Tie as tie
-use Rattle.merging.proofs.merges.add_items.Reads as reads
-use Rattle.merging.proofs.merges.add_items.Lts as lts
-use Rattle.blocks.proofs.child.Reads as child-reads
-use Rattle.merging.proofs.areas.add_item.Reads as add-item-reads
-use Rattle.merging.proofs.areas.least.Reads as least-reads
 
 abbrev Inv-loop : tie.InvT-loop
 Inv-loop pool work₀ j b from to end i₀ work i = (addFrom pool work₀ j b (end - from) from ≡ addFrom pool work j b (end - i) i) × (length work ≡ length work₀)

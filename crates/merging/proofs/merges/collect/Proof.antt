@@ -1,11 +1,9 @@
+-- `merging::merges::collect`: each case of what stands beside a spine is the definition's.
+use mathlib.Core.Path.{refl}
 use borrow.Author.Needs.{needs}
+use Rattle.merging.specs.Merges.{collectOf}
 use Rattle.merging.proofs.merges.collect.Statement.{statement}
 use Rattle.merging.proofs.merges.collect.Tie as tie
-use Rattle.merging.proofs.merges.collect.Reads as reads
-use Rattle.merging.proofs.merges.collect.Lts as lts
-use Rattle.blocks.proofs.release.Reads as release-reads
-use Rattle.merging.proofs.areas.add_item.Reads as add-item-reads
-use Rattle.merging.proofs.merges.add_items.Reads as add-items-reads
 
 enum-told : tie.Need-enum-told
 enum-told c = search needs
@@ -26,7 +24,8 @@ add-item-requires : tie.Need-add-item-requires
 add-item-requires c κs = search needs
 
 returns : tie.Need-returns
-returns c = ?
+unfolding collectOf
+returns c = rw (c .enum-told .given .1) (refl, (refl, refl))
 
 same-length : tie.Need-same-length
 same-length c = search needs
@@ -35,13 +34,15 @@ same-length-2 : tie.Need-same-length-2
 same-length-2 c = search needs
 
 returns-2 : tie.Need-returns-2
-returns-2 c = ?
+unfolding collectOf
+returns-2 c = rw (c .before .before .before .before .before .before .before .before .before .before .o .given .1) (c .before .before .release .ensures .0, (c .before .before .release .ensures .1, c .before .before .before .before .before .before .add-items .ensures))
 
 same-length-3 : tie.Need-same-length-3
 same-length-3 c = search needs
 
 returns-3 : tie.Need-returns-3
-returns-3 c = ?
+unfolding collectOf
+returns-3 c = rw (c .before .before .before .before .before .o2 .given .1) (refl, (refl, c .before .before .add-item .ensures))
 
 pub collect-spec : {M : Type 1} → statement M
 collect-spec =

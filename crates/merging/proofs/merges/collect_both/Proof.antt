@@ -1,11 +1,8 @@
+-- `merging::merges::collect_both`: left, place, right, as the definition has them.
 use borrow.Author.Needs.{needs}
+use Rattle.merging.specs.Merges.{collectBoth}
 use Rattle.merging.proofs.merges.collect_both.Statement.{statement}
 use Rattle.merging.proofs.merges.collect_both.Tie as tie
-use Rattle.merging.proofs.merges.collect_both.Reads as reads
-use Rattle.merging.proofs.merges.collect_both.Lts as lts
-use Rattle.merging.proofs.areas.set_row_place.Reads as set-row-place-reads
-use Rattle.merging.proofs.merges.collect.Reads as collect-reads
-use Rattle.merging.proofs.merges.row_slots.Reads as row-slots-reads
 
 collect-requires : tie.Need-collect-requires
 collect-requires c κs = search needs
@@ -26,7 +23,8 @@ same-length-2 : tie.Need-same-length-2
 same-length-2 c = search needs
 
 returns : tie.Need-returns
-returns c = ?
+unfolding collectBoth
+returns c = rw (← (c .before .before .before .before .before .before .before .before .before .before .before .before .before .before .before .before .before .before .collect .ensures .0), ← (c .before .before .before .before .before .before .before .before .before .before .before .before .before .before .before .before .before .before .collect .ensures .1 .0), ← (c .before .before .before .before .before .before .before .before .before .before .before .before .before .before .before .before .before .before .collect .ensures .1 .1), ← (c .before .before .before .before .before .before .before .before .before .before .before .row-slots .ensures), ← (c .before .before .before .before .before .before .before .before .before .set-row-place .ensures)) (c .before .before .before .before .collect2 .ensures)
 
 pub collect-both-spec : {M : Type 1} → statement M
 collect-both-spec =

@@ -1,16 +1,12 @@
-use Prim.Native.Nat.{ℕ, _≤_, _<_, _-_, _+_, _*_}
-use mathlib.Core.Path.{_≡_, refl, sym, _∙_, ap}
+-- `merging::merges::lift_leaf`: the elements still to go up, on the area so far, are those of the whole leaf.
+use Prim.Native.Nat.{_-_}
+use mathlib.Core.Path.{_≡_, refl, sym, _∙_}
 use native.Mathlib.Omega.{arith}
 use lib.ListN.{length}
-use Rattle.merging.specs.Merges.{liftFrom, liftLeaf, lift-at, lift-end}
 use borrow.Author.Needs.{needs}
+use Rattle.merging.specs.Merges.{liftFrom, liftLeaf, lift-at, lift-end}
 use Rattle.merging.proofs.merges.lift_leaf.Statement.{statement}
 use Rattle.merging.proofs.merges.lift_leaf.Tie as tie
-use Rattle.merging.proofs.merges.lift_leaf.Reads as reads
-use Rattle.merging.proofs.merges.lift_leaf.Lts as lts
-use Rattle.blocks.proofs.count.Reads as count-reads
-use Rattle.blocks.proofs.slot.Reads as slot-reads
-use Rattle.merging.proofs.areas.put.Reads as put-reads
 
 abbrev Inv-loop : tie.InvT-loop
 Inv-loop pool work₀ b out n i₀ work i = (liftFrom pool work₀ b out n 0 ≡ liftFrom pool work b out (n - i) i) × (length work ≡ length work₀)

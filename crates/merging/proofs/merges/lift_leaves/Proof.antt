@@ -1,12 +1,9 @@
+-- `merging::merges::lift_leaves`: the two cases are the definition's.
 use borrow.Author.Needs.{needs}
+use borrow.Author.Tests.{lt-ltb, le-ltb}
+use Rattle.merging.specs.Merges.{liftLeaves}
 use Rattle.merging.proofs.merges.lift_leaves.Statement.{statement}
 use Rattle.merging.proofs.merges.lift_leaves.Tie as tie
-use Rattle.merging.proofs.merges.lift_leaves.Reads as reads
-use Rattle.merging.proofs.merges.lift_leaves.Lts as lts
-use Rattle.blocks.proofs.count.Reads as count-reads
-use Rattle.blocks.proofs.release.Reads as release-reads
-use Rattle.merging.proofs.merges.lift_leaf.Reads as lift-leaf-reads
-use Rattle.merging.proofs.merges.lift_tail.Reads as lift-tail-reads
 
 count-requires : tie.Need-count-requires
 count-requires c κs = search needs
@@ -30,7 +27,8 @@ same-length-2 : tie.Need-same-length-2
 same-length-2 c = search needs
 
 returns : tie.Need-returns
-returns c = ?
+unfolding liftLeaves
+returns c = rw (lt-ltb _ _ (c .before .before .before .before .before .before .before .before .before .before .before .before .before .if1 .taken)) (rw (c .before .before .before .before .before .before .before .before .before .before .before .before .before .before .count .ensures, c .before .before .release .ensures .0), (c .before .before .release .ensures .1, rw (c .before .before .before .before .before .before .lift-leaf .ensures, c .before .before .before .before .before .before .before .before .before .before .before .lift-tail .ensures)))
 
 count-requires-2 : tie.Need-count-requires-2
 count-requires-2 c κs = search needs
@@ -57,7 +55,8 @@ same-length-4 : tie.Need-same-length-4
 same-length-4 c = search needs
 
 returns-2 : tie.Need-returns-2
-returns-2 c = ?
+unfolding liftLeaves
+returns-2 c = rw (le-ltb _ _ (c .before .before .before .before .before .before .before .before .before .before .before .before .before .before .before .before .before .before .before .before .if1 .left)) (rw (c .before .before .before .before .before .before .before .before .before .before .before .before .before .before .before .before .before .before .count2 .ensures, c .before .before .before .before .before .before .before .before .before .before .before .before .before .before .before .before .before .before .before .before .before .count .ensures, c .before .before .release3 .ensures .0, c .before .before .before .before .before .before .release2 .ensures .0), (rw (c .before .before .release3 .ensures .1, c .before .before .before .before .before .before .release2 .ensures .0, c .before .before .before .before .before .before .release2 .ensures .1), rw (c .before .before .before .before .before .before .before .before .before .before .lift-leaf3 .ensures, c .before .before .before .before .before .before .before .before .before .before .before .before .before .before .before .lift-leaf2 .ensures, c .before .before .before .before .before .before .before .before .before .before .before .before .before .before .before .before .before .before .count2 .ensures)))
 
 pub lift-leaves-spec : {M : Type 1} → statement M
 lift-leaves-spec =

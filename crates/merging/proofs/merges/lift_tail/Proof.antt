@@ -1,21 +1,15 @@
-use Prim.Native.Nat.{suc}
-use denote.Ref.{now}
+-- `merging::merges::lift_tail`: the stores still to come, on the area so far, are those of the whole run.
+use Prim.Native.Nat.{suc, _≤_, _<_, _-_, _+_}
+use mathlib.Core.Path.{_≡_, refl, sym, _∙_}
 use native.Mathlib.Numerals.{add-one}
-use lib.ListN.{drop-of-length-le}
-use lib.Seq.{drop-cons}
-use Prim.Native.Nat.{ℕ, _≤_, _<_, _-_, _+_, _*_}
-use mathlib.Core.Path.{_≡_, refl, sym, _∙_, ap}
 use native.Mathlib.Omega.{arith}
-use lib.ListN.{length}
-use lib.ListN.{drop}
-use lib.Seq.{sets}
-use Rattle.merging.specs.Merges.{liftTail}
+use lib.ListN.{drop-of-length-le, length, drop}
+use lib.Seq.{drop-cons, sets}
+use denote.Ref.{now}
 use borrow.Author.Needs.{needs}
+use Rattle.merging.specs.Merges.{liftTail}
 use Rattle.merging.proofs.merges.lift_tail.Statement.{statement}
 use Rattle.merging.proofs.merges.lift_tail.Tie as tie
-use Rattle.merging.proofs.merges.lift_tail.Reads as reads
-use Rattle.merging.proofs.merges.lift_tail.Lts as lts
-use Rattle.merging.proofs.areas.put.Reads as put-reads
 
 abbrev Inv-loop : tie.InvT-loop
 Inv-loop work₀ tail i₀ work i = (i ≤ length tail) × (sets work₀ 3200 tail ≡ sets work (3200 + i) (drop i tail)) × (length work ≡ length work₀)

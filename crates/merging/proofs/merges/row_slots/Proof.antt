@@ -1,19 +1,14 @@
+-- `merging::merges::row_slots`: the sum so far and the slots still to be counted are the whole.
+use Prim.Native.Nat.{_≤_, _-_, _+_, _*_}
+use mathlib.Core.Path.{_≡_}
+use native.Mathlib.Omega.{arith}
 use denote.Ref.{now}
+use borrow.Author.Needs.{needs}
 use Rattle.blocks.specs.Words.{countOf}
 use Rattle.merging.specs.Areas.{itemOf}
-use Prim.Native.Nat.{ℕ, _≤_, _<_, _-_, _+_, _*_}
-use mathlib.Core.Path.{_≡_, refl, sym, _∙_, ap}
-use native.Mathlib.Omega.{arith}
-use lib.ListN.{length}
 use Rattle.merging.specs.Merges.{slotsSum, rowSlots, slots-at, slots-end}
-use borrow.Author.Needs.{needs}
 use Rattle.merging.proofs.merges.row_slots.Statement.{statement}
 use Rattle.merging.proofs.merges.row_slots.Tie as tie
-use Rattle.merging.proofs.merges.row_slots.Reads as reads
-use Rattle.merging.proofs.merges.row_slots.Lts as lts
-use Rattle.blocks.proofs.count.Reads as count-reads
-use Rattle.merging.proofs.areas.item.Reads as item-reads
-use Rattle.merging.proofs.areas.row_len.Reads as row-len-reads
 
 abbrev Inv-loop : tie.InvT-loop
 Inv-loop pool work j n i₀ sum₀ i sum = (sum ≤ 32 * i) × (slotsSum pool work j n 0 ≡ sum + slotsSum pool work j (n - i) i)

@@ -1,13 +1,9 @@
+-- `merging::packs::block_for`: the two cases are the definition's.
+use borrow.Author.Needs.{needs}
 use borrow.Author.Tests.{le-ltb, lt-ltb}
 use Rattle.merging.specs.Packs.{blockFor}
-use borrow.Author.Needs.{needs}
 use Rattle.merging.proofs.packs.block_for.Statement.{statement}
 use Rattle.merging.proofs.packs.block_for.Tie as tie
-use Rattle.merging.proofs.packs.block_for.Reads as reads
-use Rattle.merging.proofs.packs.block_for.Lts as lts
-use Rattle.blocks.proofs.alloc.Reads as alloc-reads
-use Rattle.merging.proofs.areas.item.Reads as item-reads
-use Rattle.merging.proofs.areas.row_len.Reads as row-len-reads
 
 row-len-requires : tie.Need-row-len-requires
 row-len-requires c κs = search needs

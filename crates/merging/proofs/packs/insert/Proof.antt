@@ -1,14 +1,8 @@
+-- `merging::packs::insert`: whole or poured, as the definition decides.
 use borrow.Author.Needs.{needs}
+use Rattle.merging.specs.Packs.{insertOf}
 use Rattle.merging.proofs.packs.insert.Statement.{statement}
 use Rattle.merging.proofs.packs.insert.Tie as tie
-use Rattle.merging.proofs.packs.insert.Reads as reads
-use Rattle.merging.proofs.packs.insert.Lts as lts
-use Rattle.merging.proofs.areas.least.Reads as least-reads
-use Rattle.merging.proofs.areas.row_len.Reads as row-len-reads
-use Rattle.merging.proofs.areas.row_place.Reads as row-place-reads
-use Rattle.merging.proofs.packs.insert_poured.Reads as insert-poured-reads
-use Rattle.merging.proofs.packs.insert_whole.Reads as insert-whole-reads
-use Rattle.merging.proofs.packs.leading.Reads as leading-reads
 
 least-requires : tie.Need-least-requires
 least-requires c κs = search needs
@@ -25,8 +19,8 @@ least-requires-2 c κs = search needs
 leading-requires : tie.Need-leading-requires
 leading-requires c κs = search needs
 
-mul-if1 : tie.Need-mul-if1
-mul-if1 c = search needs
+stays-whole-requires : tie.Need-stays-whole-requires
+stays-whole-requires c κs = search needs
 
 insert-whole-requires : tie.Need-insert-whole-requires
 insert-whole-requires c κs = search needs
@@ -38,7 +32,8 @@ same-length-2 : tie.Need-same-length-2
 same-length-2 c = search needs
 
 returns : tie.Need-returns
-returns c = ?
+unfolding insertOf
+returns c = rw (← (c .before .before .before .before .before .before .before .before .before .before .before .before .before .before .before .before .before .least .ensures), ← (c .before .before .before .before .before .before .before .before .before .before .before .before .before .before .before .row-place .ensures), ← (c .before .before .before .before .before .before .before .before .before .before .before .before .before .row-len .ensures), ← (c .before .before .before .before .before .before .before .before .before .before .before .before .least2 .ensures), ← (c .before .before .before .before .before .before .before .before .before .leading .ensures .0), ← (c .before .before .before .before .before .before .before .before .stays-whole .ensures), c .before .before .before .before .before .before .before .if1 .taken) (c .before .before .before .before .insert-whole .ensures)
 
 mul-insert-poured : tie.Need-mul-insert-poured
 mul-insert-poured c = search needs
@@ -56,7 +51,8 @@ same-length-4 : tie.Need-same-length-4
 same-length-4 c = search needs
 
 returns-2 : tie.Need-returns-2
-returns-2 c = ?
+unfolding insertOf
+returns-2 c = rw (← (c .before .before .before .before .before .before .before .before .before .before .before .before .before .before .before .before .before .least .ensures), ← (c .before .before .before .before .before .before .before .before .before .before .before .before .before .before .before .row-place .ensures), ← (c .before .before .before .before .before .before .before .before .before .before .before .before .before .row-len .ensures), ← (c .before .before .before .before .before .before .before .before .before .before .before .before .least2 .ensures), ← (c .before .before .before .before .before .before .before .before .before .leading .ensures .0), ← (c .before .before .before .before .before .before .before .before .stays-whole .ensures), c .before .before .before .before .before .before .before .if1 .left) (c .before .before .before .before .insert-poured .ensures)
 
 pub insert-spec : {M : Type 1} → statement M
 insert-spec =
@@ -67,7 +63,7 @@ insert-spec =
     row-len-requires
     least-requires-2
     leading-requires
-    mul-if1
+    stays-whole-requires
     insert-whole-requires
     same-length
     same-length-2

@@ -1,12 +1,8 @@
+-- `merging::packs::insert_poured`: the calls are the definition's, one after the other.
 use borrow.Author.Needs.{needs}
+use Rattle.merging.specs.Packs.{insertPoured}
 use Rattle.merging.proofs.packs.insert_poured.Statement.{statement}
 use Rattle.merging.proofs.packs.insert_poured.Tie as tie
-use Rattle.merging.proofs.packs.insert_poured.Reads as reads
-use Rattle.merging.proofs.packs.insert_poured.Lts as lts
-use Rattle.merging.proofs.packs.keep.Reads as keep-reads
-use Rattle.merging.proofs.packs.lay_nodes.Reads as lay-nodes-reads
-use Rattle.merging.proofs.packs.pour.Reads as pour-reads
-use Rattle.merging.proofs.packs.pour_out.Reads as pour-out-reads
 
 lay-nodes-requires : tie.Need-lay-nodes-requires
 lay-nodes-requires c κs = search needs
@@ -27,7 +23,8 @@ same-length-2 : tie.Need-same-length-2
 same-length-2 c = search needs
 
 returns : tie.Need-returns
-returns c = ?
+unfolding insertPoured
+returns c = rw (← (c .before .before .before .before .before .before .before .before .before .before .before .before .before .before .before .before .before .before .lay-nodes .ensures), ← (c .before .before .before .before .before .before .before .before .before .before .before .before .before .pour-out .ensures .0), ← (c .before .before .before .before .before .before .before .before .before .before .before .before .before .pour-out .ensures .1 .0), ← (c .before .before .before .before .before .before .before .before .before .keep .ensures)) (c .before .before .before .before .pour .ensures)
 
 pub insert-poured-spec : {M : Type 1} → statement M
 insert-poured-spec =

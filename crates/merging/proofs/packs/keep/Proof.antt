@@ -1,15 +1,12 @@
-use Prim.Native.Nat.{ℕ, _≤_, _<_, _-_, _+_, _*_}
-use mathlib.Core.Path.{_≡_, refl, sym, _∙_, ap}
+-- `merging::packs::keep`: the nodes still to be kept, on the area so far, are those of the whole run.
+use Prim.Native.Nat.{_≤_, _-_, _+_}
+use mathlib.Core.Path.{_≡_, refl, sym, _∙_}
 use native.Mathlib.Omega.{arith}
 use lib.ListN.{length}
-use Rattle.merging.specs.Packs.{keepOf, keep-at, keep-end}
 use borrow.Author.Needs.{needs}
+use Rattle.merging.specs.Packs.{keepOf, keep-at, keep-end}
 use Rattle.merging.proofs.packs.keep.Statement.{statement}
 use Rattle.merging.proofs.packs.keep.Tie as tie
-use Rattle.merging.proofs.packs.keep.Reads as reads
-use Rattle.merging.proofs.packs.keep.Lts as lts
-use Rattle.merging.proofs.areas.item.Reads as item-reads
-use Rattle.merging.proofs.areas.put.Reads as put-reads
 
 abbrev Inv-loop : tie.InvT-loop
 Inv-loop work₀ j k end out i₀ at₀ work i at = (at ≤ out + i) × (keepOf work₀ j (end - k) k out ≡ keepOf work j (end - i) i at) × (length work ≡ length work₀)

@@ -1,15 +1,12 @@
-use Prim.Native.Nat.{ℕ, _≤_, _<_, _-_, _+_, _*_}
-use mathlib.Core.Path.{_≡_, refl, sym, _∙_, ap}
+-- `merging::packs::lay_nodes`: the stores still to come, on the area so far, are those of the whole run.
+use Prim.Native.Nat.{_≤_, _-_}
+use mathlib.Core.Path.{_≡_, refl, sym, _∙_}
 use native.Mathlib.Omega.{arith}
 use lib.ListN.{length}
-use Rattle.merging.specs.Packs.{layNodes, lay-at, lay-end}
 use borrow.Author.Needs.{needs}
+use Rattle.merging.specs.Packs.{layNodes, lay-at, lay-end}
 use Rattle.merging.proofs.packs.lay_nodes.Statement.{statement}
 use Rattle.merging.proofs.packs.lay_nodes.Tie as tie
-use Rattle.merging.proofs.packs.lay_nodes.Reads as reads
-use Rattle.merging.proofs.packs.lay_nodes.Lts as lts
-use Rattle.merging.proofs.areas.get.Reads as get-reads
-use Rattle.merging.proofs.areas.put.Reads as put-reads
 
 abbrev Inv-loop : tie.InvT-loop
 Inv-loop work₀ q c i₀ work i = (i ≤ c) × (layNodes work₀ q c 0 ≡ layNodes work q (c - i) i) × (length work ≡ length work₀)

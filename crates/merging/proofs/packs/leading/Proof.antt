@@ -1,19 +1,15 @@
-use Prim.Native.Nat.{ℕ, _≤_, _<_, _-_, _+_, _*_}
-use mathlib.Core.Path.{_≡_, refl, sym, _∙_, ap}
+-- `merging::packs::leading`: what is left of the search is the whole search.
+use Prim.Native.Nat.{max, _≤_, _-_}
+use mathlib.Core.Path.{_≡_, refl, sym, _∙_}
 use native.Mathlib.Omega.{arith}
-use lib.ListN.{length}
-use borrow.Author.Tests.{lt-ltb, le-ltb, eq-eqb, ne-eqb}
-use Rattle.merging.specs.Packs.{leadFrom, lead-at, lead-end}
 use borrow.Author.Needs.{needs}
+use borrow.Author.Tests.{eq-eqb, ne-eqb}
+use Rattle.merging.specs.Packs.{leadFrom, lead-at, lead-end}
 use Rattle.merging.proofs.packs.leading.Statement.{statement}
 use Rattle.merging.proofs.packs.leading.Tie as tie
-use Rattle.merging.proofs.packs.leading.Reads as reads
-use Rattle.merging.proofs.packs.leading.Lts as lts
-use Rattle.blocks.proofs.count.Reads as count-reads
-use Rattle.merging.proofs.areas.item.Reads as item-reads
 
 abbrev Inv-loop : tie.InvT-loop
-Inv-loop pool work j k end i₀ i = (k ≤ i) × (i ≤ 62) × (leadFrom pool work j (end - k) k ≡ leadFrom pool work j (end - i) i)
+Inv-loop pool work j k end i₀ i = (k ≤ i) × (i ≤ max k end) × (leadFrom pool work j (end - k) k ≡ leadFrom pool work j (end - i) i)
 
 abbrev μ-loop : tie.MeasureT-loop
 μ-loop pool work j k end i₀ i = end - i

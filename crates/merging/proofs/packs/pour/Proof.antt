@@ -1,10 +1,8 @@
+-- `merging::packs::pour`: the calls are the definition's, one after the other.
 use borrow.Author.Needs.{needs}
+use Rattle.merging.specs.Packs.{pourOf}
 use Rattle.merging.proofs.packs.pour.Statement.{statement}
 use Rattle.merging.proofs.packs.pour.Tie as tie
-use Rattle.merging.proofs.packs.pour.Reads as reads
-use Rattle.merging.proofs.packs.pour.Lts as lts
-use Rattle.merging.proofs.packs.pour_in.Reads as pour-in-reads
-use Rattle.merging.proofs.packs.release_items.Reads as release-items-reads
 
 add-release-items : tie.Need-add-release-items
 add-release-items c = search needs
@@ -25,7 +23,8 @@ same-length-2 : tie.Need-same-length-2
 same-length-2 c = search needs
 
 returns : tie.Need-returns
-returns c = ?
+unfolding pourOf
+returns c = rw (← (c .before .before .before .before .before .before .before .before .before .release-items .ensures .0), ← (c .before .before .before .before .before .before .before .before .before .release-items .ensures .1)) (c .before .before .before .before .pour-in .ensures)
 
 pub pour-spec : {M : Type 1} → statement M
 pour-spec =

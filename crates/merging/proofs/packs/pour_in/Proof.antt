@@ -1,17 +1,12 @@
-use Prim.Native.Nat.{ℕ, _≤_, _<_, _-_, _+_, _*_}
+-- `merging::packs::pour_in`: the nodes still to be written, on the words so far, are those of the whole; the slots left are the total less 32 for each node.
+use Prim.Native.Nat.{ℕ, _≤_, _-_, _+_, _*_}
 use mathlib.Core.Path.{_≡_, refl, sym, _∙_, ap}
 use native.Mathlib.Omega.{arith}
 use lib.ListN.{length}
-use Rattle.merging.specs.Packs.{Out, pourFrom, pourIn, pour-at, pour-end}
 use borrow.Author.Needs.{needs}
+use Rattle.merging.specs.Packs.{Out, pourFrom, pourIn, pour-at, pour-end}
 use Rattle.merging.proofs.packs.pour_in.Statement.{statement}
 use Rattle.merging.proofs.packs.pour_in.Tie as tie
-use Rattle.merging.proofs.packs.pour_in.Reads as reads
-use Rattle.merging.proofs.packs.pour_in.Lts as lts
-use Rattle.merging.proofs.areas.least.Reads as least-reads
-use Rattle.merging.proofs.areas.put.Reads as put-reads
-use Rattle.merging.proofs.packs.block_for.Reads as block-for-reads
-use Rattle.merging.proofs.packs.write_node.Reads as write-node-reads
 
 abbrev Inv-loop : tie.InvT-loop
 Inv-loop pool₀ work₀ j k total out left₀ i₀ s₀ pool work left i s =
@@ -63,13 +58,13 @@ loop-again c =
     let l = c .before .before .before .before .before .before .before .before .before .before .before .before .before .before .before .loop in
     let m = c .before .before .before .before .before .before .before .before .before .before .least .result in
     let g = c .before .before .before .before .before .before .before .before .before .before .before .block-for .result in (
-    l .inv .0 - 1,
-    omega (arith, c .before .before .before .before .before .before .before .before .before .before .least .ensures, l .inv .1, l .inv .2),
-    omega (arith, c .before .before .before .before .before .before .before .before .before .before .least .ensures, l .inv .1, l .inv .2),
-    omega (arith, l .inv .2, l .inv .3),
-    l .inv .4 ∙ pour-at _ (l .s) _ _ _ _ (l .left) (l .i) (l .inv .0) (c .before .before .before .before .before .before .before .before .before .before .before .before .before .before .loop-test .taken) (l .inv .1) g m (c .before .before .before .before .before .before .before .before .before .before .before .block-for .ensures) (c .before .before .before .before .before .before .before .before .before .before .least .ensures) ∙ rw (c .before .before .before .before .before .before .before .write-node .ensures, c .before .before .before .put .ensures),
-    c .before .before .before .before .before .before .before .write-node .kept .0 ∙ l .inv .5,
-    c .before .before .before .put .kept .0 ∙ l .inv .6,
+      l .inv .0 - 1,
+      omega (arith, c .before .before .before .before .before .before .before .before .before .before .least .ensures, l .inv .1, l .inv .2),
+      omega (arith, c .before .before .before .before .before .before .before .before .before .before .least .ensures, l .inv .1, l .inv .2),
+      omega (arith, l .inv .2, l .inv .3),
+      l .inv .4 ∙ pour-at _ (l .s) _ _ _ _ (l .left) (l .i) (l .inv .0) (c .before .before .before .before .before .before .before .before .before .before .before .before .before .before .loop-test .taken) (l .inv .1) g m (c .before .before .before .before .before .before .before .before .before .before .before .block-for .ensures) (c .before .before .before .before .before .before .before .before .before .before .least .ensures) ∙ rw (c .before .before .before .before .before .before .before .write-node .ensures, c .before .before .before .put .ensures),
+      c .before .before .before .before .before .before .before .write-node .kept .0 ∙ l .inv .5,
+      c .before .before .before .put .kept .0 ∙ l .inv .6,
     )
 
 add-t28 : tie.Need-add-t28 Inv-loop μ-loop

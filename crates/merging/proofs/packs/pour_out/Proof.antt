@@ -1,20 +1,13 @@
+-- `merging::packs::pour_out`: of a node, the slots still to be laid, and of the row, the nodes still to be laid, are the whole; a flat slot and a gap at most are passed each time.
+use Prim.Native.Nat.{ℕ, _≤_, _-_, _+_, _*_}
 use mathlib.Core.List.{List}
-use Prim.Native.Nat.{ℕ, _≤_, _<_, _-_, _+_, _*_}
 use mathlib.Core.Path.{_≡_, refl, sym, _∙_, ap}
 use native.Mathlib.Omega.{arith}
 use lib.ListN.{length}
-use Rattle.merging.specs.Packs.{pourNode, pourNodes, pourOut, node-at, node-end, nodes-at, nodes-end}
 use borrow.Author.Needs.{needs}
+use Rattle.merging.specs.Packs.{pourNode, pourNodes, pourOut, node-at, node-end, nodes-at, nodes-end}
 use Rattle.merging.proofs.packs.pour_out.Statement.{statement}
 use Rattle.merging.proofs.packs.pour_out.Tie as tie
-use Rattle.merging.proofs.packs.pour_out.Reads as reads
-use Rattle.merging.proofs.packs.pour_out.Lts as lts
-use Rattle.blocks.proofs.count.Reads as count-reads
-use Rattle.blocks.proofs.slot.Reads as slot-reads
-use Rattle.merging.proofs.areas.item.Reads as item-reads
-use Rattle.merging.proofs.areas.put.Reads as put-reads
-use Rattle.merging.proofs.areas.row_len.Reads as row-len-reads
-use Rattle.merging.proofs.packs.past_gap.Reads as past-gap-reads
 
 abbrev Inv-loop : tie.InvT-loop
 Inv-loop pool work₀ j k q c n t₀ i b m s₀ work t s =
@@ -61,11 +54,11 @@ nodes-again : tie.Need-nodes-again Inv-loop μ-loop Inv-nodes μ-nodes
 nodes-again c =
     let l = c .before .loop in
     let o = c .before .before .before .before .before .before .nodes in (
-    omega (arith, o .inv .0, o .inv .1, l .inv .1, l .inv .0, c .before .before .count .ensures),
-    omega arith,
-    omega arith,
-    o .inv .3 ∙ nodes-at _ _ _ _ _ (o .i) (o .t) (o .work) (c .before .before .before .before .before .nodes-test .taken) (c .before .before .before .item .result) (l .t, l .work) (c .before .before .before .item .ensures) (sym (rw (← (c .before .before .count .ensures)) (l .inv .2 ∙ node-end _ _ _ _ _ (l .s) (l .t) (l .work) (c .loop-test .taken)))),
-    l .inv .3 ∙ o .inv .4,
+      omega (arith, o .inv .0, o .inv .1, l .inv .1, l .inv .0, c .before .before .count .ensures),
+      omega arith,
+      omega arith,
+      o .inv .3 ∙ nodes-at _ _ _ _ _ (o .i) (o .t) (o .work) (c .before .before .before .before .before .nodes-test .taken) (c .before .before .before .item .result) (l .t, l .work) (c .before .before .before .item .ensures) (sym (rw (← (c .before .before .count .ensures)) (l .inv .2 ∙ node-end _ _ _ _ _ (l .s) (l .t) (l .work) (c .loop-test .taken)))),
+      l .inv .3 ∙ o .inv .4,
     )
 
 add-put : tie.Need-add-put Inv-loop μ-loop Inv-nodes μ-nodes
@@ -92,10 +85,10 @@ loop-less c = search needs
 loop-again : tie.Need-loop-again Inv-loop μ-loop Inv-nodes μ-nodes
 loop-again c =
     let l = c .before .before .before .before .before .before .before .loop in (
-    omega arith,
-    omega (arith, c .past-gap2 .ensures .1, l .inv .1),
-    l .inv .2 ∙ node-at _ _ _ _ _ (l .s) (l .t) (l .work) (c .before .before .before .before .before .before .loop-test .left) ∙ rw (c .before .before .before .put .ensures, c .past-gap2 .ensures .0, c .before .before .before .before .slot .ensures),
-    c .before .before .before .put .kept .0 ∙ l .inv .3,
+      omega arith,
+      omega (arith, c .past-gap2 .ensures .1, l .inv .1),
+      l .inv .2 ∙ node-at _ _ _ _ _ (l .s) (l .t) (l .work) (c .before .before .before .before .before .before .loop-test .left) ∙ rw (c .before .before .before .put .ensures, c .past-gap2 .ensures .0, c .before .before .before .before .slot .ensures),
+      c .before .before .before .put .kept .0 ∙ l .inv .3,
     )
 
 same-length : tie.Need-same-length Inv-loop μ-loop Inv-nodes μ-nodes

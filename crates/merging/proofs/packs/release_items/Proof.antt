@@ -1,18 +1,13 @@
-use Prim.Native.Nat.{ℕ, _≤_, _<_, _-_, _+_, _*_}
-use mathlib.Core.Path.{_≡_, refl, sym, _∙_, ap}
-use native.Mathlib.Omega.{arith}
-use lib.ListN.{length}
+-- `merging::packs::release_items`: the nodes still to be released, on the words so far, are those of the whole run.
+use Prim.Native.Nat.{ℕ, _-_}
 use mathlib.Core.List.{List}
+use mathlib.Core.Path.{_≡_, refl, sym, _∙_, ap}
+use lib.ListN.{length}
+use borrow.Author.Needs.{needs}
 use Rattle.blocks.specs.declared.State.{State}
 use Rattle.merging.specs.Packs.{releaseFrom, releaseItems, release-at, release-end}
-use borrow.Author.Needs.{needs}
 use Rattle.merging.proofs.packs.release_items.Statement.{statement}
 use Rattle.merging.proofs.packs.release_items.Tie as tie
-use Rattle.merging.proofs.packs.release_items.Reads as reads
-use Rattle.merging.proofs.packs.release_items.Lts as lts
-use Rattle.blocks.proofs.release.Reads as release-reads
-use Rattle.merging.proofs.areas.item.Reads as item-reads
-use Rattle.merging.proofs.areas.row_len.Reads as row-len-reads
 
 abbrev Inv-loop : tie.InvT-loop
 Inv-loop pool₀ work j k n i₀ s₀ pool i s = (releaseFrom (n - k) pool₀ s₀ work j k ≡ releaseFrom (n - i) pool s work j i) × (length pool ≡ length pool₀)

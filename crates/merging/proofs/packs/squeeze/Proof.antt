@@ -1,10 +1,10 @@
+-- `merging::packs::squeeze`: packing with nothing from below, and the row's new length.
+use mathlib.Core.Path.{ap, _∙_}
 use borrow.Author.Needs.{needs}
+use Rattle.merging.specs.Packs.{squeezeOf}
+use Rattle.merging.specs.declared.packs.Packed.{Packed}
 use Rattle.merging.proofs.packs.squeeze.Statement.{statement}
 use Rattle.merging.proofs.packs.squeeze.Tie as tie
-use Rattle.merging.proofs.packs.squeeze.Reads as reads
-use Rattle.merging.proofs.packs.squeeze.Lts as lts
-use Rattle.merging.proofs.areas.set_row_len.Reads as set-row-len-reads
-use Rattle.merging.proofs.packs.insert_whole.Reads as insert-whole-reads
 
 insert-whole-requires : tie.Need-insert-whole-requires
 insert-whole-requires c κs = search needs
@@ -19,7 +19,10 @@ same-length-2 : tie.Need-same-length-2
 same-length-2 c = search needs
 
 returns : tie.Need-returns
-returns c = ?
+unfolding squeezeOf
+returns c =
+    let e = c .before .before .before .before .before .before .before .before .before .insert-whole .ensures in
+    (ap (λ (p : Packed). p .state) (e .0), (e .1 .0, c .before .before .before .set-row-len .ensures ∙ rw (e .0, e .1 .1)))
 
 pub squeeze-spec : {M : Type 1} → statement M
 squeeze-spec =

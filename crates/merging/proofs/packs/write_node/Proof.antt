@@ -1,13 +1,9 @@
+-- `merging::packs::write_node`: slots and node are the definition's, where the flat slots are there.
+use borrow.Author.Needs.{needs}
 use borrow.Author.Tests.{le-leb, lt-leb}
 use Rattle.merging.specs.Packs.{writeNode}
-use borrow.Author.Needs.{needs}
 use Rattle.merging.proofs.packs.write_node.Statement.{statement}
 use Rattle.merging.proofs.packs.write_node.Tie as tie
-use Rattle.merging.proofs.packs.write_node.Reads as reads
-use Rattle.merging.proofs.packs.write_node.Lts as lts
-use Rattle.levels.proofs.Shift.at.Reads as at-reads
-use Rattle.node.proofs.build.Reads as build-reads
-use Rattle.node.proofs.slots_fill.Reads as slots-fill-reads
 
 add-start : tie.Need-add-start
 add-start c = search needs

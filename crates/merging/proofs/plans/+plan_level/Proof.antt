@@ -1,20 +1,25 @@
-use borrow.Author.Needs.{needs}
+-- `merging::plans::plan_level`, by the height: the plan below, the nodes beside both spines, packed.
 use Prim.Native.Nat.{ℕ, _<_}
+use mathlib.Core.Path.{_∙_, sym}
+use native.Mathlib.Omega.{arith}
+use denote.Ref.{now}
+use borrow.Author.Needs.{needs}
 use borrow.Fn.Kinds.{In}
 use borrow.Fn.PlainCycle.{Measures, is, falls, and}
-use Rattle.merging.proofs.plans.plan_level.Reads as plan-level
-use Rattle.merging.proofs.plans.plan_level.Kinds as plan-level-kinds
+use Rattle.merging.specs.Plans.{plan-bottom, plan-up}
 use Rattle.merging.proofs.plans.+plan_level.Lts-plan_level as plan-level-lts
+use Rattle.merging.proofs.plans.+plan_level.Tie.{close}
+use Rattle.merging.proofs.plans.+plan_level.{statement}
 use Rattle.merging.proofs.plans.packed.Reads as packed-reads
 use Rattle.merging.proofs.plans.plan_leaves.Reads as plan-leaves-reads
+use Rattle.merging.proofs.plans.plan_level.Kinds as plan-level-kinds
+use Rattle.merging.proofs.plans.plan_level.Reads as plan-level
 use Rattle.merging.proofs.plans.with_others.Reads as with-others-reads
 use Rattle.merging.proofs.spines.below.Reads as below-reads
 use Rattle.merging.proofs.spines.beside.Reads as beside-reads
-use Rattle.merging.proofs.plans.+plan_level.{statement}
-use Rattle.merging.proofs.plans.+plan_level.Tie.{close}
 
 abbrev μ-plan-level : Measures 1 plan-level-kinds.ps ℕ
-μ-plan-level κs a = ?
+μ-plan-level κs a = a .1 .1 .1 .1 .0
 
 abbrev plan-level-at : ℕ → In 1 plan-level-kinds.ps
 plan-level-at t =
@@ -54,7 +59,9 @@ plan-level-returns : (t : ℕ) → plan-level-lts.Need-returns (
   packed-reads.Asked,
   packed-reads.Learnt,
 ) (plan-level-at t) plan-level.Post
-plan-level-returns t c = ?
+plan-level-returns t c =
+    let a = c .before .before .before .args in
+    c .plan-leaves .ensures ∙ sym (plan-bottom (a .j) (now (a .pool)) (a .l) (a .tail) (a .r) (c .before .if1 .taken))
 
 plan-level-below-requires : (t : ℕ) → plan-level-lts.Need-below-requires (
   plan-leaves-reads.Asked,
@@ -118,7 +125,7 @@ plan-level-plan-level-requires : (t : ℕ) → plan-level-lts.Need-plan-level-re
   packed-reads.Asked,
   packed-reads.Learnt,
 ) (plan-level-at t) plan-level.Post
-plan-level-plan-level-requires t c κs = search needs
+plan-level-plan-level-requires t c κs = (omega (arith, c .before .before .before .before .pre .0), tt)
 
 plan-level-beside-requires : (t : ℕ) → plan-level-lts.Need-beside-requires (
   plan-leaves-reads.Asked,
@@ -214,7 +221,10 @@ plan-level-returns-2 : (t : ℕ) → plan-level-lts.Need-returns-2 (
   packed-reads.Asked,
   packed-reads.Learnt,
 ) (plan-level-at t) plan-level.Post
-plan-level-returns-2 t c = ?
+plan-level-returns-2 t c =
+    let a = c .before .before .before .before .before .before .before .before .before .before .args in
+    c .packed .ensures ∙ rw (c .before .with-others2 .ensures, c .before .before .beside2 .ensures, c .before .before .before .with-others .ensures, c .before .before .before .before .beside .ensures, c .before .before .before .before .before .plan-level .ensures, c .before .before .before .before .before .before .below2 .ensures, c .before .before .before .before .before .before .before .below .ensures)
+    (sym (plan-up (a .j) (now (a .pool)) (a .l) (a .tail) (a .r) (omega arith)))
 
 pub +plan-level-spec : {M : Type 1} → statement M
 +plan-level-spec = close μ-plan-level λ t. plan-level-lts.spec (

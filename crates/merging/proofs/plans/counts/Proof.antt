@@ -1,17 +1,10 @@
-use Prim.Native.Nat.{ℕ, _≤_, _<_, _-_, _+_, _*_}
-use mathlib.Core.Path.{_≡_, refl, sym, _∙_, ap}
-use native.Mathlib.Omega.{arith}
-use lib.ListN.{length}
-use Rattle.merging.specs.Plans.{countsFrom, countsOf, counts-at, counts-end}
+-- `merging::plans::counts`: the sum so far and the counts still to come are the whole.
+use Prim.Native.Nat.{_-_}
+use mathlib.Core.Path.{_≡_, refl, sym, _∙_}
 use borrow.Author.Needs.{needs}
+use Rattle.merging.specs.Plans.{countsFrom, countsOf, counts-at, counts-end}
 use Rattle.merging.proofs.plans.counts.Statement.{statement}
 use Rattle.merging.proofs.plans.counts.Tie as tie
-use Rattle.merging.proofs.plans.counts.Reads as reads
-use Rattle.merging.proofs.plans.counts.Lts as lts
-use Rattle.blocks.proofs.child.Reads as child-reads
-use Rattle.blocks.proofs.count.Reads as count-reads
-use Rattle.merging.proofs.areas.least.Reads as least-reads
-use Rattle.std.proofs.num.wrapping_add_usize.Reads as wrapping-add-usize-reads
 
 abbrev Inv-loop : tie.InvT-loop
 Inv-loop pool b from to end i₀ sum₀ i sum = countsFrom pool b (end - from) from 0 ≡ countsFrom pool b (end - i) i sum

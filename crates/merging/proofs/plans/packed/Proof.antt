@@ -1,10 +1,8 @@
-use Rattle.merging.specs.Plans.{packedOf}
+-- `merging::plans::packed`: the sums are the definition's.
 use borrow.Author.Needs.{needs}
+use Rattle.merging.specs.Plans.{packedOf}
 use Rattle.merging.proofs.plans.packed.Statement.{statement}
 use Rattle.merging.proofs.plans.packed.Tie as tie
-use Rattle.merging.proofs.plans.packed.Reads as reads
-use Rattle.merging.proofs.plans.packed.Lts as lts
-use Rattle.std.proofs.num.wrapping_add_usize.Reads as wrapping-add-usize-reads
 
 wrapping-add-usize-requires : tie.Need-wrapping-add-usize-requires
 wrapping-add-usize-requires c κs = search needs

@@ -1,12 +1,9 @@
+-- `merging::plans::plan_leaves`: the two cases are the definition's.
+use borrow.Author.Needs.{needs}
 use borrow.Author.Tests.{le-ltb, lt-ltb}
 use Rattle.merging.specs.Plans.{planLeaves}
-use borrow.Author.Needs.{needs}
 use Rattle.merging.proofs.plans.plan_leaves.Statement.{statement}
 use Rattle.merging.proofs.plans.plan_leaves.Tie as tie
-use Rattle.merging.proofs.plans.plan_leaves.Reads as reads
-use Rattle.merging.proofs.plans.plan_leaves.Lts as lts
-use Rattle.blocks.proofs.count.Reads as count-reads
-use Rattle.std.proofs.num.wrapping_add_usize.Reads as wrapping-add-usize-reads
 
 count-requires : tie.Need-count-requires
 count-requires c κs = search needs

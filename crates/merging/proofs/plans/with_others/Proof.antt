@@ -1,12 +1,8 @@
+-- `merging::plans::with_others`: each case of what stands beside a spine is the definition's.
 use borrow.Author.Needs.{needs}
+use Rattle.merging.specs.Plans.{withOthers}
 use Rattle.merging.proofs.plans.with_others.Statement.{statement}
 use Rattle.merging.proofs.plans.with_others.Tie as tie
-use Rattle.merging.proofs.plans.with_others.Reads as reads
-use Rattle.merging.proofs.plans.with_others.Lts as lts
-use Rattle.blocks.proofs.count.Reads as count-reads
-use Rattle.levels.proofs.Index.less.Reads as less-reads
-use Rattle.merging.proofs.plans.counts.Reads as counts-reads
-use Rattle.std.proofs.num.wrapping_add_usize.Reads as wrapping-add-usize-reads
 
 enum-told : tie.Need-enum-told
 enum-told c = search needs
@@ -42,13 +38,16 @@ wrapping-add-usize-requires-5 : tie.Need-wrapping-add-usize-requires-5
 wrapping-add-usize-requires-5 c κs = search needs
 
 returns : tie.Need-returns
-returns c = ?
+unfolding withOthers
+returns c = rw (c .enum-told .given .1)
 
 returns-2 : tie.Need-returns-2
-returns-2 c = ?
+unfolding withOthers
+returns-2 c = rw (c .before .before .before .before .before .before .o .given .1, c .wrapping-add-usize3 .ensures, c .before .wrapping-add-usize2 .ensures, c .before .before .counts .ensures, c .before .before .before .wrapping-add-usize .ensures, c .before .before .before .before .less .ensures)
 
 returns-3 : tie.Need-returns-3
-returns-3 c = ?
+unfolding withOthers
+returns-3 c = rw (c .before .before .before .before .o2 .given .1, c .wrapping-add-usize5 .ensures, c .before .wrapping-add-usize4 .ensures, c .before .before .count .ensures)
 
 pub with-others-spec : {M : Type 1} → statement M
 with-others-spec =

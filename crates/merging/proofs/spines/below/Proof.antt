@@ -1,12 +1,9 @@
+-- `merging::spines::below`: the three cases are the definition's.
+use borrow.Author.Needs.{needs}
 use borrow.Author.Tests.{le-ltb, lt-ltb}
 use Rattle.merging.specs.Spines.{belowOf}
-use borrow.Author.Needs.{needs}
 use Rattle.merging.proofs.spines.below.Statement.{statement}
 use Rattle.merging.proofs.spines.below.Tie as tie
-use Rattle.merging.proofs.spines.below.Reads as reads
-use Rattle.merging.proofs.spines.below.Lts as lts
-use Rattle.blocks.proofs.child.Reads as child-reads
-use Rattle.blocks.proofs.last.Reads as last-reads
 
 returns : tie.Need-returns
 unfolding belowOf

@@ -1,15 +1,11 @@
+-- `merging::spines::beside`: the cases are the definition's.
 use mathlib.Core.Path.{_∙_, sym}
 use denote.Ref.{now}
-use Rattle.merging.specs.Spines.{others-left}
-use borrow.Author.Tests.{le-ltb, lt-ltb}
-use Rattle.merging.specs.Spines.{othersOf}
 use borrow.Author.Needs.{needs}
+use borrow.Author.Tests.{le-ltb, lt-ltb}
+use Rattle.merging.specs.Spines.{others-left, othersOf}
 use Rattle.merging.proofs.spines.beside.Statement.{statement}
 use Rattle.merging.proofs.spines.beside.Tie as tie
-use Rattle.merging.proofs.spines.beside.Reads as reads
-use Rattle.merging.proofs.spines.beside.Lts as lts
-use Rattle.blocks.proofs.count.Reads as count-reads
-use Rattle.merging.proofs.spines.left_others.Reads as left-others-reads
 
 returns : tie.Need-returns
 unfolding othersOf

@@ -1,12 +1,9 @@
+-- `merging::spines::hangs`: each case of the room found is the definition's.
+use borrow.Author.Needs.{needs}
 use borrow.Author.Tests.{eq-eqb, ne-eqb}
 use Rattle.merging.specs.Spines.{hangsAt}
-use borrow.Author.Needs.{needs}
 use Rattle.merging.proofs.spines.hangs.Statement.{statement}
 use Rattle.merging.proofs.spines.hangs.Tie as tie
-use Rattle.merging.proofs.spines.hangs.Reads as reads
-use Rattle.merging.proofs.spines.hangs.Lts as lts
-use Rattle.levels.proofs.Shift.height.Reads as height-reads
-use Rattle.rrbtree.proofs.has_enough_capacity.Reads as has-enough-capacity-reads
 
 returns : tie.Need-returns
 unfolding hangsAt

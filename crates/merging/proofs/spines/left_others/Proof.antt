@@ -1,12 +1,9 @@
+-- `merging::spines::left_others`: the cases are the definition's.
+use borrow.Author.Needs.{needs}
 use borrow.Author.Tests.{eq-eqb, le-ltb, lt-ltb, ne-eqb}
 use Rattle.merging.specs.Spines.{leftOthers}
-use borrow.Author.Needs.{needs}
 use Rattle.merging.proofs.spines.left_others.Statement.{statement}
 use Rattle.merging.proofs.spines.left_others.Tie as tie
-use Rattle.merging.proofs.spines.left_others.Reads as reads
-use Rattle.merging.proofs.spines.left_others.Lts as lts
-use Rattle.blocks.proofs.count.Reads as count-reads
-use Rattle.blocks.proofs.last.Reads as last-reads
 
 returns : tie.Need-returns
 unfolding leftOthers

@@ -1,12 +1,10 @@
+-- `merging::spines::pair_of`: the record is the definition's.
+use Prim.Native.Nat.{min, max}
+use mathlib.Core.Path.{_≡_, _∙_}
 use borrow.Author.Needs.{needs}
+use Rattle.merging.specs.Spines.{pairOf}
 use Rattle.merging.proofs.spines.pair_of.Statement.{statement}
 use Rattle.merging.proofs.spines.pair_of.Tie as tie
-use Rattle.merging.proofs.spines.pair_of.Reads as reads
-use Rattle.merging.proofs.spines.pair_of.Lts as lts
-use Rattle.levels.proofs.Shift.height.Reads as height-reads
-use Rattle.merging.proofs.areas.least.Reads as least-reads
-use Rattle.merging.proofs.spines.hangs.Reads as hangs-reads
-use Rattle.merging.proofs.spines.higher.Reads as higher-reads
 
 hangs-requires : tie.Need-hangs-requires
 hangs-requires c κs = search needs
@@ -27,7 +25,14 @@ least-requires : tie.Need-least-requires
 least-requires c κs = search needs
 
 returns : tie.Need-returns
-returns c = ?
+unfolding pairOf
+returns c =
+    let a = c .before .before .before .before .before .before .before .before .before .args in
+    let h = c .before .before .before .before .height .ensures in
+    let k = c .before .before .before .height2 .ensures in
+    let s = c .before .before .before .before .before .before .before .hangs .ensures in
+    let t : c .least .result ≡ min (max (max (c .before .before .before .before .height .result) (c .before .before .before .before .before .before .before .hangs .result)) (c .before .before .before .height2 .result)) 48 = c .least .ensures ∙ rw (c .before .higher2 .ensures, c .before .before .higher .ensures) in
+    rw (t, h, k, s)
 
 pub pair-of-spec : {M : Type 1} → statement M
 pair-of-spec =
