@@ -1,4 +1,6 @@
 // Blocks of 66 words in a lent pool, and the chain of the free ones.
+#![tactic(auto)]
+
 ghost use Rattle.std.specs.Prelude.{◌≡◌, ◌<◌, ◌/◌, length};
 ghost use Rattle.blocks.specs.Words.{word_of, put_of, kind_of, count_of, last_of, slot_of, size_of};
 ghost use Rattle.blocks.specs.Chain.{alloc_of, on_chain, release_of, chained_of, free_count_of};
@@ -24,14 +26,14 @@ pub const RELAXED: u64 = 3;
 
 // The small state record: the first free block (the number of blocks where there is none), and the promised total.
 #[repr(C)]
-#[derive(Drop)]
+#[derive(Clone, Copy)]
 pub struct State {
     pub free: u64,
     pub promised: u64,
 }
 
 // A block taken off the chain, and the state after.
-#[derive(Drop)]
+#[derive(Clone, Copy)]
 pub struct Got {
     pub block: usize,
     pub state: State,

@@ -1,13 +1,15 @@
 // Levels and places of a tree.
+#![tactic(auto)]
+
 ghost use Rattle.std.specs.Prelude.{◌≡◌, ◌+◌, ◌-◌, ◌*◌, ◌/◌, ◌≤◌, ◌^◌, min, eqb, ltb, leb};
 ghost use Rattle.levels.specs.Place.{child_of, element_of, room_for};
 
 // A level: 0 at a leaf, and 5 more per level above.
-#[derive(Drop)]
+#[derive(Clone, Copy)]
 pub struct Shift(pub u32);
 
 // A place among the elements below a node.
-#[derive(Drop)]
+#[derive(Clone, Copy)]
 pub struct Index(pub usize);
 
 impl Shift {

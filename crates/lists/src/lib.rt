@@ -1,4 +1,6 @@
 // Laws about plain lists: theory only, in specs/.
+#![tactic(auto)]
+
 pub fn theory() -> u64 {
     0
 }

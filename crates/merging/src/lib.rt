@@ -1,4 +1,6 @@
 // Append's merge of two trees in place: down both spines, only freeing blocks; up again, only taking blocks.
+#![tactic(auto)]
+
 mod areas;
 mod merges;
 mod packs;

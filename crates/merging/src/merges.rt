@@ -9,7 +9,7 @@ use blocks::State;
 use levels::Shift;
 
 // The merged tree's root and level, and the state after.
-#[derive(Drop)]
+#[derive(Clone, Copy)]
 pub struct Merged {
     pub root: usize,
     pub shift: Shift,

@@ -7,7 +7,7 @@ use blocks::{Got, State};
 use levels::Shift;
 
 // How many nodes go up, and the state after.
-#[derive(Drop)]
+#[derive(Clone, Copy)]
 pub struct Packed {
     pub n: usize,
     pub state: State,

@@ -7,7 +7,7 @@ use crate::{Pair, areas, spines};
 use levels::Index;
 
 // The nodes or elements that go up to the next height, the nodes that the merge makes, and those that it takes apart or packs anew.
-#[derive(Drop)]
+#[derive(Clone, Copy)]
 pub struct Plan {
     pub slots: usize,
     pub made: usize,

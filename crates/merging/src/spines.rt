@@ -6,7 +6,7 @@ use crate::areas;
 use rrbtree::{Room, Tree};
 
 // A spine node's block, the height of the tree's root, and the height of the node below which the left tree's short tail hangs (0: none).
-#[derive(Drop)]
+#[derive(Clone, Copy)]
 pub struct Spine {
     pub block: usize,
     pub height: usize,
@@ -15,7 +15,7 @@ pub struct Spine {
 }
 
 // The two spines of a merge, and the height where they are joined, 48 at most.
-#[derive(Drop)]
+#[derive(Clone, Copy)]
 pub struct Pair {
     pub left: Spine,
     pub right: Spine,
@@ -23,7 +23,7 @@ pub struct Pair {
 }
 
 // The nodes beside a spine: none; the children from..to of a spine node; or the whole left tree, below a root that is still to come.
-#[derive(Drop)]
+#[derive(Clone, Copy)]
 pub enum Others {
     None,
     Kids(usize, usize, usize),

@@ -1,4 +1,6 @@
 // One node: leaf add, merge and take; the branch builder and the size tables.
+#![tactic(auto)]
+
 mod branches;
 mod builds;
 mod leaves;

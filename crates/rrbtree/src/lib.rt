@@ -1,4 +1,6 @@
 // One tree in the pool: the walk, leaf push, leaf pop.
+#![tactic(auto)]
+
 mod pops;
 mod pushes;
 mod rooms;
@@ -11,7 +13,7 @@ pub use rooms::{Room, has_enough_capacity, needs};
 pub use walks::{get, set};
 
 // A tree by value. One of length 0 has no root.
-#[derive(Drop)]
+#[derive(Clone, Copy)]
 pub struct Tree {
     pub root: usize,
     pub shift: Shift,

@@ -7,7 +7,7 @@ use blocks::State;
 use levels::Shift;
 
 // The leaf that goes, still in its block, and its length; how many children its node is left with; the branches that were released.
-#[derive(Drop)]
+#[derive(Clone, Copy)]
 pub struct Taken {
     pub state: State,
     pub leaf: usize,

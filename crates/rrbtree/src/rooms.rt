@@ -6,7 +6,7 @@ use crate::Tree;
 use levels::{Index, Shift};
 
 // Where a pushed leaf goes: it is the root; below a branch so many levels up; below a new root.
-#[derive(Drop)]
+#[derive(Clone, Copy)]
 pub enum Room {
     Root,
     At(usize),
@@ -14,7 +14,7 @@ pub enum Room {
 }
 
 // What one node on the way down says: where the leaf goes, or on to a child, with the length below it and the deepest level so far that may take a sibling (0: none).
-#[derive(Drop)]
+#[derive(Clone, Copy)]
 pub enum Look {
     Ends(Room),
     Down(usize, Index, usize),

@@ -7,14 +7,14 @@ use crate::Tree;
 use levels::{Index, Shift};
 
 // A child's block, and the place in it.
-#[derive(Drop)]
+#[derive(Clone, Copy)]
 pub struct Down {
     pub block: usize,
     pub place: Index,
 }
 
 // A leaf's block, and the slot in it.
-#[derive(Drop)]
+#[derive(Clone, Copy)]
 pub struct Found {
     pub block: usize,
     pub slot: usize,

@@ -1,0 +1,21 @@
+-- `blocks::free_all`: after b turns the first b blocks are on the chain.
+use Prim.Native.Nat.{◌≤◌, ◌-◌}
+use mathlib.Core.Path.{◌≡◌, refl, ap, ◌∙◌}
+use native.Mathlib.Omega.{arith}
+use lib.ListN.{length}
+use borrow.Author.Rules.{rules}
+use Rattle.blocks.specs.Chain.{chained_of, chained_more, length_chained}
+use Rattle.blocks.proofs.free_all.Goals as goal
+
+pub loop-b-init : goal.loop-b-init
+unfolding chained_of
+loop-b-init c = (omega arith, refl)
+
+pub loop-b-preserved : goal.loop-b-preserved
+loop-b-preserved c = (omega arith, cc (chained_more _ _))
+
+pub returns : goal.returns
+returns c =
+    let l = c.loop-b in
+    let e : l.b ≡ c.total-n.result = omega arith in
+    cc
