@@ -64,7 +64,7 @@ fn keep_kid(t: Taken, i: usize) -> Taken
     }
 }
 
-#[cycle(dense_pop_node_pop_relaxed_pop)]
+#[cycle(leaf_pop)]
 fn dense_pop(pool: &mut [u64], st: State, b: usize, shift: Shift) -> Taken
     requires { 5 ≤ shift.0 }
     ensures { (result ≡ (branch_pop false ((shift.0 - 5) / 5) pool.old st b).0) × (pool.new ≡ (branch_pop false ((shift.0 - 5) / 5) pool.old st b).1) }
@@ -78,7 +78,7 @@ fn dense_pop(pool: &mut [u64], st: State, b: usize, shift: Shift) -> Taken
     keep_kid(t, i)
 }
 
-#[cycle(dense_pop_node_pop_relaxed_pop)]
+#[cycle(leaf_pop)]
 fn relaxed_pop(pool: &mut [u64], st: State, b: usize, shift: Shift) -> Taken
     requires { 5 ≤ shift.0 }
     ensures { (result ≡ (branch_pop true ((shift.0 - 5) / 5) pool.old st b).0) × (pool.new ≡ (branch_pop true ((shift.0 - 5) / 5) pool.old st b).1) }
@@ -93,7 +93,7 @@ fn relaxed_pop(pool: &mut [u64], st: State, b: usize, shift: Shift) -> Taken
     keep_kid(t, i)
 }
 
-#[cycle(dense_pop_node_pop_relaxed_pop)]
+#[cycle(leaf_pop)]
 fn node_pop(pool: &mut [u64], st: State, b: usize, shift: Shift) -> Taken
     ensures { (result ≡ (node_pop (shift.0 / 5) pool.old st b).0) × (pool.new ≡ (node_pop (shift.0 / 5) pool.old st b).1) }
 {
