@@ -1,7 +1,6 @@
 -- The words of a pool: 66 to a block. What lies in no block reads as 0, and a store there changes nothing.
-use Rattle.std.specs.Prelude.{ℕ, ◌+◌, ◌*◌, ◌-◌, ◌/◌, ◌<◌, ◌≤◌, min, ◌≡◌, refl, List, Bool, true, false, ltb, length, get_or, set}
-use Rattle.std.proofs.Common.{sym, ◌∙◌, ap, arith, lt-ltb, le-ltb, length-set, get_or-set_same, get_or-set_other}
-use Rattle.std.proofs.Math.Decide.{dec_lt}
+use Rattle.std.specs.Prelude.{ℕ, ◌+◌, ◌*◌, ◌-◌, ◌/◌, min, ◌≡◌, refl, List, Bool, true, false, ltb, length, get_or, set}
+use Rattle.std.proofs.Common.{length-set}
 
 -- one of two, by a test
 abbrev pub pick {ℓ} : {A : Type ℓ} → Bool → A → A → A

@@ -1,5 +1,5 @@
 -- The merge: a recursion down both spines and up again, on the words of a pool (ws) and of the work area (w).
-use Rattle.std.specs.Prelude.{◌≡◌, ℕ, zero, suc, ◌+◌, ◌-◌, ◌*◌, ◌<◌, ◌≤◌, min, List, [], ◌∷◌, length, replicate, nat_lt, slice_index, slice_set}
+use Rattle.std.specs.Prelude.{◌≡◌, ℕ, zero, suc, ◌+◌, ◌-◌, ◌*◌, ◌<◌, ◌≤◌, min, List, length, replicate, nat_lt, slice_index, slice_set}
 use Rattle.std.proofs.Math.Path.{refl}
 use Rattle.std.proofs.Common.{add-one}
 use native.Mathlib.Omega.{arith}
@@ -8,7 +8,6 @@ use Rattle.std.proofs.lemmas.List.Edits.{sets}
 use Rattle.blocks.specs.Words.{pick, count_of, slot_of}
 use Rattle.blocks.specs.Chain.{on_chain, release_of}
 use Rattle.blocks.specs.declared.State.{State}
-use Rattle.node.specs.Leaves.{slots_from}
 use Rattle.merging.specs.Areas.{row_len, set_row_place, item_of, add_item, node_at}
 use Rattle.merging.specs.Spines.{others_of, below_of}
 use Rattle.merging.specs.Packs.{Out, insert_of, squeeze_of}

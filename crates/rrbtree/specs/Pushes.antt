@@ -1,5 +1,5 @@
 -- Leaf push, on the words of a pool: what it answers, and the words after.
-use Rattle.std.specs.Prelude.{◌≡◌, ℕ, zero, suc, ◌+◌, ◌-◌, ◌/◌, ◌<◌, ◌≤◌, List, length, nat_lt, refl}
+use Rattle.std.specs.Prelude.{◌≡◌, ℕ, zero, suc, ◌+◌, ◌-◌, ◌/◌, ◌<◌, List, length, nat_lt, refl}
 use Rattle.std.proofs.Common.{add-one, arith}
 use Rattle.blocks.specs.Words.{pick, count_of, last_of, slot_of}
 use Rattle.blocks.specs.Chain.{alloc_of}

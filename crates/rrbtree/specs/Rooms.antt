@@ -3,7 +3,7 @@ use Rattle.std.specs.Prelude.{◌≡◌, ℕ, zero, suc, ◌+◌, ◌-◌, ◌/�
 use Rattle.std.proofs.Math.Path.{refl}
 use Rattle.std.proofs.Math.Decide.{dec_lt}
 use native.Mathlib.Omega.{arith}
-use Rattle.std.proofs.Common.{lt-ltb, le-ltb, eq-eqb, ne_eqb}
+use Rattle.std.proofs.Common.{lt-ltb, le-ltb, eq-eqb}
 use Rattle.levels.specs.Place.{child_of, room_for}
 use Rattle.levels.specs.declared.Index.{Index}
 use Rattle.blocks.specs.Words.{pick, kind_of, count_of, last_of, slot_of}

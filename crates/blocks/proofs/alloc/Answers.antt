@@ -1,5 +1,4 @@
 -- `blocks::alloc`: the record is the definition's, with the word that was read.
-use borrow.Author.Rules.{rules}
 use Rattle.blocks.specs.Chain.{alloc_of}
 use Rattle.blocks.proofs.alloc.Goals as goal
 

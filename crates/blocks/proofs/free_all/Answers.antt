@@ -1,10 +1,7 @@
 -- `blocks::free_all`: after b turns the first b blocks are on the chain.
-use Prim.Native.Nat.{◌≤◌, ◌-◌}
-use mathlib.Core.Path.{◌≡◌, refl, ap, ◌∙◌}
+use mathlib.Core.Path.{◌≡◌, refl}
 use native.Mathlib.Omega.{arith}
-use lib.ListN.{length}
-use borrow.Author.Rules.{rules}
-use Rattle.blocks.specs.Chain.{chained_of, chained_more, length_chained}
+use Rattle.blocks.specs.Chain.{chained_of, chained_more}
 use Rattle.blocks.proofs.free_all.Goals as goal
 
 pub loop-b-init : goal.loop-b-init

@@ -1,10 +1,7 @@
 -- `blocks::free_all`: after b turns the first b blocks are on the chain.
 use Prim.Native.Nat.{◌≤◌, ◌-◌}
-use mathlib.Core.Path.{◌≡◌, refl, ap, ◌∙◌}
-use native.Mathlib.Omega.{arith}
-use lib.ListN.{length}
-use borrow.Author.Rules.{rules}
-use Rattle.blocks.specs.Chain.{chained_of, chained_more, length_chained}
+use mathlib.Core.Path.{◌≡◌}
+use Rattle.blocks.specs.Chain.{chained_of}
 use Rattle.blocks.proofs.free_all.Given as goal
 
 abbrev pub invariant-loop-b : goal.invariant-loop-b

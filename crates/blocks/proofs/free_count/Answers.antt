@@ -1,9 +1,8 @@
 -- `blocks::free_count`: what was counted and what is still to be counted are together the whole chain.
-use Prim.Native.Nat.{◌≤◌, ◌-◌, ◌+◌}
+use Prim.Native.Nat.{◌-◌}
 use mathlib.Core.Path.{◌≡◌}
 use native.Mathlib.Omega.{arith}
-use borrow.Author.Rules.{rules}
-use Rattle.blocks.specs.Chain.{chain_from, free_count_of, chain_end, chain_out, chain_more}
+use Rattle.blocks.specs.Chain.{free_count_of, chain_end, chain_out, chain_more}
 use Rattle.blocks.proofs.free_count.Goals as goal
 
 pub loop-k-init : goal.loop-k-init

@@ -1,9 +1,7 @@
 -- `blocks::free_count`: what was counted and what is still to be counted are together the whole chain.
 use Prim.Native.Nat.{◌≤◌, ◌-◌, ◌+◌}
 use mathlib.Core.Path.{◌≡◌}
-use native.Mathlib.Omega.{arith}
-use borrow.Author.Rules.{rules}
-use Rattle.blocks.specs.Chain.{chain_from, free_count_of, chain_end, chain_out, chain_more}
+use Rattle.blocks.specs.Chain.{chain_from, free_count_of}
 use Rattle.blocks.proofs.free_count.Given as goal
 
 abbrev pub invariant-loop-k : goal.invariant-loop-k

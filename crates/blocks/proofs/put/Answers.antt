@@ -1,5 +1,4 @@
 -- `blocks::put`: the one store is the definition's, and where there is no block both leave the words.
-use borrow.Author.Rules.{rules}
 use borrow.Author.Tests.{lt-ltb, le-ltb}
 use Rattle.blocks.specs.Words.{put_of}
 use Rattle.blocks.proofs.put.Goals as goal

@@ -1,6 +1,5 @@
 -- `blocks::release`: the two stores are the definition's.
 use mathlib.Core.Path.{refl}
-use borrow.Author.Rules.{rules}
 use Rattle.blocks.specs.Chain.{release_of}
 use Rattle.blocks.proofs.release.Goals as goal
 

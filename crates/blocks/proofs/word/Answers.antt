@@ -1,5 +1,4 @@
 -- `blocks::word`: the one read is the definition's, and where there is no block both are 0.
-use borrow.Author.Rules.{rules}
 use borrow.Author.Tests.{lt-ltb, le-ltb}
 use Rattle.blocks.specs.Words.{word_of}
 use Rattle.blocks.proofs.word.Goals as goal

@@ -1,5 +1,5 @@
 -- `merging::areas::add_item`: the stores are the definition's, where there is room.
-use Rattle.std.proofs.Common.{rules, le-ltb, lt-ltb}
+use Rattle.std.proofs.Common.{le-ltb, lt-ltb}
 use Rattle.merging.specs.Areas.{add_item}
 use Rattle.merging.proofs.areas.add_item.Goals as goal
 

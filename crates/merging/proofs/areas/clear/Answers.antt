@@ -1,5 +1,5 @@
 -- `merging::areas::clear`: after i turns the first i words are zero and the rest is as it was.
-use Rattle.std.proofs.Common.{◌≡◌, ◌-◌, ◌<◌, ◌≤◌, [], ◌++◌, length, drop, replicate, refl, ◌∙◌, append-nil, arith, length-set, drop_of_length-le, rules}
+use Rattle.std.proofs.Common.{◌≡◌, ◌<◌, [], length, drop, replicate, refl, ◌∙◌, append-nil, arith, length-set, drop_of_length-le}
 use Rattle.merging.specs.Areas.{cleared_more}
 use Rattle.merging.proofs.areas.clear.Goals as goal
 

@@ -1,5 +1,5 @@
 -- `merging::areas::get`: past the end both are 0.
-use Rattle.std.proofs.Common.{sym, rules}
+use Rattle.std.proofs.Common.{sym}
 use lib.ListN.{get_or-eq_default}
 use Rattle.merging.proofs.areas.get.Goals as goal
 

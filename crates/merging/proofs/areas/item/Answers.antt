@@ -1,5 +1,4 @@
 -- `merging::areas::item`: the word read is the definition's.
-use Rattle.std.proofs.Common.{rules}
 use Rattle.merging.specs.Areas.{item_of}
 use Rattle.merging.proofs.areas.item.Goals as goal
 

@@ -1,5 +1,5 @@
 -- `merging::areas::put`: a store past the end leaves the area.
-use Rattle.std.proofs.Common.{sym, rules}
+use Rattle.std.proofs.Common.{sym}
 use lib.Seq.{set_out}
 use Rattle.merging.proofs.areas.put.Goals as goal
 

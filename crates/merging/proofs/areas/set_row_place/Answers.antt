@@ -1,5 +1,4 @@
 -- `merging::areas::set_row_place`: the store is the definition's.
-use Rattle.std.proofs.Common.{rules}
 use Rattle.merging.specs.Areas.{set_row_place}
 use Rattle.merging.proofs.areas.set_row_place.Goals as goal
 

@@ -1,6 +1,6 @@
 -- `merging::merges::add_items`: the nodes still to be added, on the area so far, are those of the whole.
-use Rattle.std.proofs.Common.{◌≡◌, ◌-◌, length, sym, refl, ◌∙◌, rules}
-use Rattle.merging.specs.Merges.{add_from, add_items, add_at, add_end}
+use Rattle.std.proofs.Common.{sym, refl, ◌∙◌}
+use Rattle.merging.specs.Merges.{add_items, add_at, add_end}
 use Rattle.merging.proofs.merges.add_items.Goals as goal
 
 pub loop-i-init : goal.loop-i-init

@@ -1,5 +1,5 @@
 -- `merging::merges::collect`: each case of what stands beside a spine is the definition's.
-use Rattle.std.proofs.Common.{refl, rules}
+use Rattle.std.proofs.Common.{refl}
 use Rattle.merging.specs.Merges.{collect_of}
 use Rattle.merging.proofs.merges.collect.Goals as goal
 

@@ -1,5 +1,4 @@
 -- `merging::merges::collect_both`: left, place, right, as the definition has them.
-use Rattle.std.proofs.Common.{rules}
 use Rattle.merging.specs.Merges.{collect_both}
 use Rattle.merging.proofs.merges.collect_both.Goals as goal
 

@@ -1,6 +1,6 @@
 -- `merging::merges::lift_leaf`: the elements still to go up, on the area so far, are those of the whole leaf.
-use Rattle.std.proofs.Common.{◌≡◌, ◌-◌, length, sym, refl, ◌∙◌, arith, rules}
-use Rattle.merging.specs.Merges.{lift_from, lift_leaf, lift_at, lift_end}
+use Rattle.std.proofs.Common.{◌≡◌, ◌-◌, sym, refl, ◌∙◌, arith}
+use Rattle.merging.specs.Merges.{lift_leaf, lift_at, lift_end}
 use Rattle.merging.proofs.merges.lift_leaf.Goals as goal
 
 pub loop-i-init : goal.loop-i-init

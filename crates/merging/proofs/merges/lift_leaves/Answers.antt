@@ -1,5 +1,5 @@
 -- `merging::merges::lift_leaves`: the two cases are the definition's.
-use Rattle.std.proofs.Common.{rules, le-ltb, lt-ltb}
+use Rattle.std.proofs.Common.{le-ltb, lt-ltb}
 use Rattle.merging.specs.Merges.{lift_leaves}
 use Rattle.merging.proofs.merges.lift_leaves.Goals as goal
 

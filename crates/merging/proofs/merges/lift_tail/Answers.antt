@@ -1,6 +1,5 @@
 -- `merging::merges::lift_tail`: the stores still to come, on the area so far, are those of the whole run.
-use Rattle.std.proofs.Common.{◌≡◌, suc, ◌+◌, ◌-◌, ◌<◌, ◌≤◌, length, drop, sym, refl, ◌∙◌, add-one, arith, drop_of_length-le, drop-cons, rules}
-use lib.Seq.{sets}
+use Rattle.std.proofs.Common.{◌≡◌, suc, ◌+◌, ◌<◌, length, sym, refl, ◌∙◌, add-one, arith, drop_of_length-le, drop-cons}
 use Rattle.merging.specs.Merges.{lift_tail}
 use Rattle.merging.proofs.merges.lift_tail.Goals as goal
 

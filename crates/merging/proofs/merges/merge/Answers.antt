@@ -1,5 +1,5 @@
 -- `merging::merges::merge`: the recursion, and one or two heights above it.
-use Rattle.std.proofs.Common.{refl, ◌∙◌, arith, rules}
+use Rattle.std.proofs.Common.{refl, arith}
 use Rattle.merging.specs.Merges.{merge_one, merge_two, merged_same}
 use Rattle.merging.specs.Packs.{triple_same}
 use Rattle.merging.proofs.merges.merge.Goals as goal

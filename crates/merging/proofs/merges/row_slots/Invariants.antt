@@ -1,8 +1,6 @@
 -- `merging::merges::row_slots`: the sum so far and the slots still to be counted are the whole.
-use Rattle.std.proofs.Common.{◌≡◌, ◌+◌, ◌-◌, ◌*◌, ◌≤◌, arith, rules}
-use Rattle.blocks.specs.Words.{count_of}
-use Rattle.merging.specs.Areas.{item_of}
-use Rattle.merging.specs.Merges.{slots_sum, row_slots, slots_at, slots_end}
+use Rattle.std.proofs.Common.{◌≡◌, ◌+◌, ◌-◌, ◌*◌, ◌≤◌}
+use Rattle.merging.specs.Merges.{slots_sum}
 use Rattle.merging.proofs.merges.row_slots.Given as goal
 
 abbrev pub invariant-loop-i : goal.invariant-loop-i

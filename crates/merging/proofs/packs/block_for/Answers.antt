@@ -1,5 +1,5 @@
 -- `merging::packs::block_for`: the two cases are the definition's.
-use Rattle.std.proofs.Common.{rules, le-ltb, lt-ltb}
+use Rattle.std.proofs.Common.{le-ltb, lt-ltb}
 use Rattle.merging.specs.Packs.{block_for}
 use Rattle.merging.proofs.packs.block_for.Goals as goal
 

@@ -1,5 +1,4 @@
 -- `merging::packs::insert`: whole or poured, as the definition decides.
-use Rattle.std.proofs.Common.{rules}
 use Rattle.merging.specs.Packs.{insert_of}
 use Rattle.merging.proofs.packs.insert.Goals as goal
 

@@ -1,5 +1,4 @@
 -- `merging::packs::insert_poured`: the calls are the definition's, one after the other.
-use Rattle.std.proofs.Common.{rules}
 use Rattle.merging.specs.Packs.{insert_poured}
 use Rattle.merging.proofs.packs.insert_poured.Goals as goal
 

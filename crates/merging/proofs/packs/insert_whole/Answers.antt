@@ -1,5 +1,4 @@
 -- `merging::packs::insert_whole`: the calls are the definition's, one after the other.
-use Rattle.std.proofs.Common.{rules}
 use Rattle.merging.specs.Packs.{insert_whole}
 use Rattle.merging.proofs.packs.insert_whole.Goals as goal
 

@@ -1,6 +1,6 @@
 -- `merging::packs::keep`: the nodes still to be kept, on the area so far, are those of the whole run.
-use Rattle.std.proofs.Common.{◌≡◌, ◌+◌, ◌-◌, ◌≤◌, length, sym, refl, ◌∙◌, arith, rules}
-use Rattle.merging.specs.Packs.{keep_of, keep_at, keep_end}
+use Rattle.std.proofs.Common.{sym, refl, ◌∙◌, arith}
+use Rattle.merging.specs.Packs.{keep_at, keep_end}
 use Rattle.merging.proofs.packs.keep.Goals as goal
 
 pub loop-i-init : goal.loop-i-init

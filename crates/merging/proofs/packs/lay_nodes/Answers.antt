@@ -1,6 +1,6 @@
 -- `merging::packs::lay_nodes`: the stores still to come, on the area so far, are those of the whole run.
-use Rattle.std.proofs.Common.{◌≡◌, ◌-◌, ◌≤◌, length, sym, refl, ◌∙◌, arith, rules}
-use Rattle.merging.specs.Packs.{lay_nodes, lay_at, lay_end}
+use Rattle.std.proofs.Common.{◌≡◌, ◌-◌, sym, refl, ◌∙◌, arith}
+use Rattle.merging.specs.Packs.{lay_at, lay_end}
 use Rattle.merging.proofs.packs.lay_nodes.Goals as goal
 
 pub loop-i-init : goal.loop-i-init

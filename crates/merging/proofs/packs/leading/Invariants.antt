@@ -1,6 +1,6 @@
 -- `merging::packs::leading`: what is left of the search is the whole search.
-use Rattle.std.proofs.Common.{◌≡◌, ◌-◌, ◌≤◌, max, sym, refl, ◌∙◌, arith, rules, eq-eqb, ne_eqb}
-use Rattle.merging.specs.Packs.{lead_from, lead_at, lead_end}
+use Rattle.std.proofs.Common.{◌≡◌, ◌-◌, ◌≤◌, max}
+use Rattle.merging.specs.Packs.{lead_from}
 use Rattle.merging.proofs.packs.leading.Given as goal
 
 abbrev pub invariant-loop-i : goal.invariant-loop-i

@@ -1,5 +1,5 @@
 -- `merging::packs::past_gap`: the test is the definition's.
-use Rattle.std.proofs.Common.{arith, rules, eq-eqb, ne_eqb}
+use Rattle.std.proofs.Common.{arith, eq-eqb, ne_eqb}
 use Rattle.merging.specs.Packs.{next_flat}
 use Rattle.merging.proofs.packs.past_gap.Goals as goal
 

@@ -1,5 +1,4 @@
 -- `merging::packs::pour`: the calls are the definition's, one after the other.
-use Rattle.std.proofs.Common.{rules}
 use Rattle.merging.specs.Packs.{pour_of}
 use Rattle.merging.proofs.packs.pour.Goals as goal
 

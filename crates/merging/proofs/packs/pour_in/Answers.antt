@@ -1,6 +1,6 @@
 -- `merging::packs::pour_in`: the nodes still to be written, on the words so far, are those of the whole; the slots left are the total less 32 for each node.
-use Rattle.std.proofs.Common.{◌≡◌, ℕ, ◌+◌, ◌-◌, ◌*◌, ◌≤◌, length, sym, refl, ap, ◌∙◌, arith, rules}
-use Rattle.merging.specs.Packs.{Out, pour_from, pour_in, pour_at, pour_end}
+use Rattle.std.proofs.Common.{◌-◌, sym, refl, ap, ◌∙◌, arith}
+use Rattle.merging.specs.Packs.{Out, pour_in, pour_at, pour_end}
 use Rattle.merging.proofs.packs.pour_in.Goals as goal
 
 pub loop-left-init : goal.loop-left-init

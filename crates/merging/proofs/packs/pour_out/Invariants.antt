@@ -1,6 +1,6 @@
 -- `merging::packs::pour_out`: of a node, the slots still to be laid, and of the row, the nodes still to be laid, are the whole; a flat slot and a gap at most are passed each time.
-use Rattle.std.proofs.Common.{◌≡◌, ℕ, ◌+◌, ◌-◌, ◌*◌, ◌≤◌, List, length, sym, refl, ap, ◌∙◌, arith, rules}
-use Rattle.merging.specs.Packs.{pour_node, pour_nodes, pour_out, node-at, node_end, nodes_at, nodes_end}
+use Rattle.std.proofs.Common.{◌≡◌, ◌+◌, ◌-◌, ◌*◌, ◌≤◌, length}
+use Rattle.merging.specs.Packs.{pour_node, pour_nodes}
 use Rattle.merging.proofs.packs.pour_out.Given as goal
 
 abbrev pub invariant-loop-s : goal.invariant-loop-s

@@ -1,5 +1,5 @@
 -- `merging::packs::raise_nodes`: the calls are the definition's, one after the other.
-use Rattle.std.proofs.Common.{ap, rules}
+use Rattle.std.proofs.Common.{ap}
 use Rattle.merging.specs.Packs.{raise_nodes}
 use Rattle.merging.specs.declared.packs.Packed.{Packed}
 use Rattle.merging.proofs.packs.raise_nodes.Goals as goal

@@ -1,5 +1,4 @@
 -- `merging::packs::raise_rest`: the calls are the definition's, one after the other.
-use Rattle.std.proofs.Common.{rules}
 use Rattle.merging.specs.Packs.{raise_rest}
 use Rattle.merging.proofs.packs.raise_rest.Goals as goal
 

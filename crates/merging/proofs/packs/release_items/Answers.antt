@@ -1,7 +1,7 @@
 -- `merging::packs::release_items`: the nodes still to be released, on the words so far, are those of the whole run.
-use Rattle.std.proofs.Common.{◌≡◌, ℕ, ◌-◌, List, length, sym, refl, ap, ◌∙◌, rules}
+use Rattle.std.proofs.Common.{ℕ, List, sym, refl, ap, ◌∙◌}
 use Rattle.blocks.specs.declared.State.{State}
-use Rattle.merging.specs.Packs.{release_from, release_items, release_at, release_end}
+use Rattle.merging.specs.Packs.{release_items, release_at, release_end}
 use Rattle.merging.proofs.packs.release_items.Goals as goal
 
 pub loop-i-init : goal.loop-i-init

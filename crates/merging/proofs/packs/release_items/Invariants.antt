@@ -1,7 +1,6 @@
 -- `merging::packs::release_items`: the nodes still to be released, on the words so far, are those of the whole run.
-use Rattle.std.proofs.Common.{◌≡◌, ℕ, ◌-◌, List, length, sym, refl, ap, ◌∙◌, rules}
-use Rattle.blocks.specs.declared.State.{State}
-use Rattle.merging.specs.Packs.{release_from, release_items, release_at, release_end}
+use Rattle.std.proofs.Common.{◌≡◌, ◌-◌, length}
+use Rattle.merging.specs.Packs.{release_from}
 use Rattle.merging.proofs.packs.release_items.Given as goal
 
 abbrev pub invariant-loop-i : goal.invariant-loop-i

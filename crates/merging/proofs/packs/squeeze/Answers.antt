@@ -1,5 +1,5 @@
 -- `merging::packs::squeeze`: packing with nothing from below, and the row's new length.
-use Rattle.std.proofs.Common.{ap, ◌∙◌, rules}
+use Rattle.std.proofs.Common.{ap, ◌∙◌}
 use Rattle.merging.specs.Packs.{squeeze_of}
 use Rattle.merging.specs.declared.packs.Packed.{Packed}
 use Rattle.merging.proofs.packs.squeeze.Goals as goal

@@ -1,5 +1,5 @@
 -- `merging::packs::stays_whole`: the tests are the definition's.
-use Rattle.std.proofs.Common.{rules, eq-eqb, ne_eqb}
+use Rattle.std.proofs.Common.{eq-eqb, ne_eqb}
 use Rattle.merging.specs.Packs.{stays_whole}
 use Rattle.merging.proofs.packs.stays_whole.Goals as goal
 

@@ -1,5 +1,5 @@
 -- `merging::packs::write_node`: slots and node are the definition's, where the flat slots are there.
-use Rattle.std.proofs.Common.{rules, le-leb}
+use Rattle.std.proofs.Common.{le-leb}
 use borrow.Author.Tests.{lt-leb}
 use Rattle.merging.specs.Packs.{write_node}
 use Rattle.merging.proofs.packs.write_node.Goals as goal

@@ -1,6 +1,6 @@
 -- `merging::plans::counts`: the sum so far and the counts still to come are the whole.
-use Rattle.std.proofs.Common.{◌≡◌, ◌-◌, sym, refl, ◌∙◌, rules}
-use Rattle.merging.specs.Plans.{counts_from, counts_of, counts_at, counts_end}
+use Rattle.std.proofs.Common.{sym, refl, ◌∙◌}
+use Rattle.merging.specs.Plans.{counts_of, counts_at, counts_end}
 use Rattle.merging.proofs.plans.counts.Goals as goal
 
 pub loop-i-init : goal.loop-i-init

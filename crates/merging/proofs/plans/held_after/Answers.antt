@@ -1,5 +1,5 @@
 -- `merging::plans::held_after`: the sums are the definition's.
-use Rattle.std.proofs.Common.{rules, le-ltb, lt-ltb}
+use Rattle.std.proofs.Common.{le-ltb, lt-ltb}
 use Rattle.merging.specs.Plans.{held_after}
 use Rattle.merging.proofs.plans.held_after.Goals as goal
 

@@ -1,5 +1,4 @@
 -- `merging::plans::packed`: the sums are the definition's.
-use Rattle.std.proofs.Common.{rules}
 use Rattle.merging.specs.Plans.{packed_of}
 use Rattle.merging.proofs.plans.packed.Goals as goal
 

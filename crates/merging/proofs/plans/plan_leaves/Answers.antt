@@ -1,5 +1,5 @@
 -- `merging::plans::plan_leaves`: the two cases are the definition's.
-use Rattle.std.proofs.Common.{rules, le-ltb, lt-ltb}
+use Rattle.std.proofs.Common.{le-ltb, lt-ltb}
 use Rattle.merging.specs.Plans.{plan_leaves}
 use Rattle.merging.proofs.plans.plan_leaves.Goals as goal
 

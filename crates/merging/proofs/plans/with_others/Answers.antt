@@ -1,5 +1,4 @@
 -- `merging::plans::with_others`: each case of what stands beside a spine is the definition's.
-use Rattle.std.proofs.Common.{rules}
 use Rattle.merging.specs.Plans.{with_others}
 use Rattle.merging.proofs.plans.with_others.Goals as goal
 

@@ -1,5 +1,5 @@
 -- `merging::spines::below`: the three cases are the definition's.
-use Rattle.std.proofs.Common.{rules, le-ltb, lt-ltb}
+use Rattle.std.proofs.Common.{le-ltb, lt-ltb}
 use Rattle.merging.specs.Spines.{below_of}
 use Rattle.merging.proofs.spines.below.Goals as goal
 

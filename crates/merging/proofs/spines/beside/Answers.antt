@@ -1,5 +1,5 @@
 -- `merging::spines::beside`: the cases are the definition's.
-use Rattle.std.proofs.Common.{sym, ◌∙◌, rules, le-ltb, lt-ltb}
+use Rattle.std.proofs.Common.{sym, ◌∙◌, le-ltb, lt-ltb}
 use Rattle.merging.specs.Spines.{others_left, others_of}
 use Rattle.merging.proofs.spines.beside.Goals as goal
 

@@ -1,5 +1,5 @@
 -- `merging::spines::hangs`: each case of the room found is the definition's.
-use Rattle.std.proofs.Common.{rules, eq-eqb, ne_eqb}
+use Rattle.std.proofs.Common.{eq-eqb, ne_eqb}
 use Rattle.merging.specs.Spines.{hangs_at}
 use Rattle.merging.proofs.spines.hangs.Goals as goal
 

@@ -1,5 +1,5 @@
 -- `merging::spines::left_others`: the cases are the definition's.
-use Rattle.std.proofs.Common.{rules, le-ltb, lt-ltb, eq-eqb, ne_eqb}
+use Rattle.std.proofs.Common.{le-ltb, lt-ltb, eq-eqb, ne_eqb}
 use Rattle.merging.specs.Spines.{left_others}
 use Rattle.merging.proofs.spines.left_others.Goals as goal
 

@@ -1,5 +1,5 @@
 -- `merging::spines::pair_of`: the record is the definition's.
-use Rattle.std.proofs.Common.{◌≡◌, min, max, ◌∙◌, rules}
+use Rattle.std.proofs.Common.{◌≡◌, min, max, ◌∙◌}
 use Rattle.merging.specs.Spines.{pair_of}
 use Rattle.merging.proofs.spines.pair_of.Goals as goal
 

@@ -1,5 +1,5 @@
 -- `node::branches::before`: the entry read is the definition's.
-use Rattle.std.proofs.Common.{rules, le-ltb, lt-ltb}
+use Rattle.std.proofs.Common.{le-ltb, lt-ltb}
 use Rattle.node.specs.Branches.{before_of}
 use Rattle.node.proofs.branches.before.Goals as goal
 

@@ -1,6 +1,6 @@
 -- `node::branches::first_above`: what is left of the search is the whole search.
-use Rattle.std.proofs.Common.{◌≡◌, ◌-◌, ◌≤◌, sym, ◌∙◌, arith, rules, le-ltb, lt-ltb}
-use Rattle.node.specs.Branches.{first_from, above_of, first_at, first_end}
+use Rattle.std.proofs.Common.{sym, ◌∙◌, arith, le-ltb, lt-ltb}
+use Rattle.node.specs.Branches.{above_of, first_at, first_end}
 use Rattle.node.proofs.branches.first_above.Goals as goal
 
 pub loop-i-init : goal.loop-i-init

@@ -1,6 +1,6 @@
 -- `node::branches::first_above`: what is left of the search is the whole search.
-use Rattle.std.proofs.Common.{◌≡◌, ◌-◌, ◌≤◌, sym, ◌∙◌, arith, rules, le-ltb, lt-ltb}
-use Rattle.node.specs.Branches.{first_from, above_of, first_at, first_end}
+use Rattle.std.proofs.Common.{◌≡◌, ◌-◌, ◌≤◌}
+use Rattle.node.specs.Branches.{first_from}
 use Rattle.node.proofs.branches.first_above.Given as goal
 
 abbrev pub invariant-loop-i : goal.invariant-loop-i

@@ -1,5 +1,4 @@
 -- `node::branches::less_kid`: the store is the definition's.
-use Rattle.std.proofs.Common.{rules}
 use Rattle.node.specs.Branches.{less_kid}
 use Rattle.node.proofs.branches.less_kid.Goals as goal
 

@@ -1,5 +1,5 @@
 -- `node::branches::link`: the stores are the definition's, by the kind.
-use Rattle.std.proofs.Common.{rules, eq-eqb, ne_eqb}
+use Rattle.std.proofs.Common.{eq-eqb, ne_eqb}
 use Rattle.node.specs.Branches.{link_of}
 use Rattle.node.proofs.branches.link.Goals as goal
 

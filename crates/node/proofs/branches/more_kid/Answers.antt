@@ -1,5 +1,5 @@
 -- `node::branches::more_kid`: the store is the definition's, by the kind.
-use Rattle.std.proofs.Common.{rules, eq-eqb, ne_eqb}
+use Rattle.std.proofs.Common.{eq-eqb, ne_eqb}
 use Rattle.node.specs.Branches.{more_kid}
 use Rattle.node.proofs.branches.more_kid.Goals as goal
 

@@ -1,5 +1,4 @@
 -- `node::branches::over`: the stores are the definition's, in the block that was first on the chain.
-use Rattle.std.proofs.Common.{rules}
 use Rattle.blocks.specs.Chain.{alloc_of}
 use Rattle.node.specs.Branches.{over_of}
 use Rattle.node.proofs.branches.over.Goals as goal

@@ -1,5 +1,5 @@
 -- `node::branches::pair`: `over`, and two stores more where the old root is relaxed.
-use Rattle.std.proofs.Common.{rules, eq-eqb, ne_eqb}
+use Rattle.std.proofs.Common.{eq-eqb, ne_eqb}
 use Rattle.blocks.specs.Chain.{alloc_of}
 use Rattle.node.specs.Branches.{pair_of}
 use Rattle.node.proofs.branches.pair.Goals as goal

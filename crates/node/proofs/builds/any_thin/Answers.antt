@@ -1,6 +1,6 @@
 -- `node::builds::any_thin`: what is left of the search is the whole search.
-use Rattle.std.proofs.Common.{◌≡◌, ◌-◌, ◌≤◌, sym, ◌∙◌, arith, rules}
-use Rattle.node.specs.Builds.{any_thin, any_at, any_end}
+use Rattle.std.proofs.Common.{◌≡◌, ◌-◌, sym, ◌∙◌, arith}
+use Rattle.node.specs.Builds.{any_at, any_end}
 use Rattle.node.proofs.builds.any_thin.Goals as goal
 
 pub loop-i-init : goal.loop-i-init

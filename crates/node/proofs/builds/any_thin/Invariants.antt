@@ -1,6 +1,6 @@
 -- `node::builds::any_thin`: what is left of the search is the whole search.
-use Rattle.std.proofs.Common.{◌≡◌, ◌-◌, ◌≤◌, sym, ◌∙◌, arith, rules}
-use Rattle.node.specs.Builds.{any_thin, any_at, any_end}
+use Rattle.std.proofs.Common.{◌≡◌, ◌-◌, ◌≤◌}
+use Rattle.node.specs.Builds.{any_thin}
 use Rattle.node.proofs.builds.any_thin.Given as goal
 
 abbrev pub invariant-loop-i : goal.invariant-loop-i

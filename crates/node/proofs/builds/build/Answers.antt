@@ -1,5 +1,4 @@
 -- `node::builds::build`: the stores are the definition's, by the level and by what was found of the children.
-use Rattle.std.proofs.Common.{rules}
 use Rattle.node.specs.Builds.{built_of}
 use Rattle.node.proofs.builds.build.Goals as goal
 

@@ -1,6 +1,6 @@
 -- `node::builds::compute_sizes`: the entries still to come, on the words so far, are those of the whole table.
-use Rattle.std.proofs.Common.{◌≡◌, ◌-◌, ◌≤◌, length, sym, refl, ◌∙◌, arith, rules}
-use Rattle.node.specs.Builds.{sizes_of, sizes_at, sizes_end}
+use Rattle.std.proofs.Common.{◌≡◌, ◌-◌, sym, refl, ◌∙◌, arith}
+use Rattle.node.specs.Builds.{sizes_at, sizes_end}
 use Rattle.node.proofs.builds.compute_sizes.Goals as goal
 
 pub loop-i-init : goal.loop-i-init

@@ -1,5 +1,5 @@
 -- `node::builds::dense_part`: a shift left is a product as a word; past 63 that is 0.
-use Rattle.std.proofs.Common.{sym, refl, rules}
+use Rattle.std.proofs.Common.{sym, refl}
 use Rattle.node.specs.Builds.{dense_part, dense_past}
 use Rattle.node.proofs.builds.dense_part.Goals as goal
 

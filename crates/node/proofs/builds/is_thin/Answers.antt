@@ -1,5 +1,5 @@
 -- `node::builds::is_thin`: the tests are the definition's.
-use Rattle.std.proofs.Common.{rules, eq-eqb, ne_eqb}
+use Rattle.std.proofs.Common.{eq-eqb, ne_eqb}
 use Rattle.node.specs.Builds.{thin_of}
 use Rattle.node.proofs.builds.is_thin.Goals as goal
 

@@ -1,7 +1,6 @@
 -- `node::builds::size_sub_trie`: the sum so far, with what is below the block reached, is the whole.
-use Rattle.std.proofs.Common.{◌≡◌, ℕ, ◌-◌, ◌≤◌, sym, refl, ◌∙◌, arith, rules, eq-eqb, ne_eqb, eqb-true}
-use borrow.Author.Tests.{eqb-false}
-use Rattle.node.specs.Builds.{sub_trie, sub_at, sub_leaf}
+use Rattle.std.proofs.Common.{◌≡◌, ℕ, ◌≤◌}
+use Rattle.node.specs.Builds.{sub_trie}
 use Rattle.node.proofs.builds.size_sub_trie.Given as goal
 
 abbrev pub invariant-loop-s : goal.invariant-loop-s

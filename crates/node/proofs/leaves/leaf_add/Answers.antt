@@ -1,5 +1,5 @@
 -- `node::leaves::leaf_add`: a store past the end of a list leaves it.
-use Rattle.std.proofs.Common.{sym, rules}
+use Rattle.std.proofs.Common.{sym}
 use lib.Seq.{set_out}
 use Rattle.node.proofs.leaves.leaf_add.Goals as goal
 

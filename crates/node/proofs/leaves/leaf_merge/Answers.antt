@@ -1,6 +1,5 @@
 -- `node::leaves::leaf_merge`: the stores still to come, on the part so far, are those of the whole run.
-use Rattle.std.proofs.Common.{◌≡◌, suc, ◌+◌, ◌-◌, ◌<◌, ◌≤◌, length, drop, sym, refl, ◌∙◌, add-one, arith, drop_of_length-le, drop-cons, rules}
-use lib.Seq.{sets}
+use Rattle.std.proofs.Common.{◌≡◌, suc, ◌+◌, ◌<◌, length, sym, refl, ◌∙◌, add-one, arith, drop_of_length-le, drop-cons}
 use Rattle.node.proofs.leaves.leaf_merge.Goals as goal
 
 pub loop-i-init : goal.loop-i-init

@@ -1,5 +1,5 @@
 -- `node::leaves::leaf_merge`: the stores still to come, on the part so far, are those of the whole run.
-use Rattle.std.proofs.Common.{◌≡◌, suc, ◌+◌, ◌-◌, ◌<◌, ◌≤◌, length, drop, sym, refl, ◌∙◌, add-one, arith, drop_of_length-le, drop-cons, rules}
+use Rattle.std.proofs.Common.{◌≡◌, ◌+◌, ◌-◌, ◌≤◌, length, drop}
 use lib.Seq.{sets}
 use Rattle.node.proofs.leaves.leaf_merge.Given as goal
 

@@ -1,5 +1,4 @@
 -- `node::leaves::leaf_new`: the stores are the definition's, in the block that was first on the chain.
-use Rattle.std.proofs.Common.{rules}
 use Rattle.blocks.specs.Chain.{alloc_of}
 use Rattle.node.specs.Leaves.{leaf_of}
 use Rattle.node.proofs.leaves.leaf_new.Goals as goal

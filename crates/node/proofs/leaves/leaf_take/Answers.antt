@@ -1,5 +1,5 @@
 -- `node::leaves::leaf_take`: after i turns the first i elements are there.
-use Rattle.std.proofs.Common.{◌≡◌, ◌-◌, ◌≤◌, ◌++◌, replicate, refl, ◌∙◌, arith, rules}
+use Rattle.std.proofs.Common.{◌≡◌, refl, ◌∙◌, arith}
 use Rattle.node.specs.Leaves.{slots_from, take_of, taken_more}
 use Rattle.node.proofs.leaves.leaf_take.Goals as goal
 

@@ -1,6 +1,6 @@
 -- `node::leaves::leaf_take`: after i turns the first i elements are there.
-use Rattle.std.proofs.Common.{◌≡◌, ◌-◌, ◌≤◌, ◌++◌, replicate, refl, ◌∙◌, arith, rules}
-use Rattle.node.specs.Leaves.{slots_from, take_of, taken_more}
+use Rattle.std.proofs.Common.{◌≡◌, ◌-◌, ◌≤◌, ◌++◌, replicate}
+use Rattle.node.specs.Leaves.{slots_from}
 use Rattle.node.proofs.leaves.leaf_take.Given as goal
 
 abbrev pub invariant-loop-i : goal.invariant-loop-i

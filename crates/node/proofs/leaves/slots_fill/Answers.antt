@@ -1,5 +1,5 @@
 -- `node::leaves::slots_fill`: a run of stores into the part is one into the pool.
-use Rattle.std.proofs.Common.{◌+◌, ◌*◌, ◌/◌, ◌<◌, length, sym, arith, rules}
+use Rattle.std.proofs.Common.{◌+◌, ◌*◌, ◌/◌, ◌<◌, length, sym, arith}
 use Rattle.node.specs.Leaves.{store_in, store_out, part_back}
 use Rattle.node.proofs.leaves.slots_fill.Goals as goal
 

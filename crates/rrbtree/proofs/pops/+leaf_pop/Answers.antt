@@ -1,5 +1,5 @@
 -- `rrbtree::pops`: node pop, dense pop and relaxed pop, by the shift: each is its definition on what the call below gave.
-use Rattle.std.proofs.Common.{◌≡◌, refl, eq-eqb, ne_eqb}
+use Rattle.std.proofs.Common.{refl, eq-eqb, ne_eqb}
 use Rattle.rrbtree.specs.Pops.{branch_pop, after_kid, pop_low, pop_high}
 use Rattle.rrbtree.proofs.pops.+leaf_pop.Goals as goal
 

@@ -1,5 +1,4 @@
 -- `rrbtree::pops::drop_kid`: the stores are the definition's.
-use Rattle.std.proofs.Common.{rules}
 use Rattle.blocks.specs.Chain.{release_of}
 use Rattle.rrbtree.specs.Pops.{drop_kid}
 use Rattle.rrbtree.proofs.pops.drop_kid.Goals as goal

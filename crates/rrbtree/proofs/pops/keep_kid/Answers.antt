@@ -1,5 +1,5 @@
 -- `rrbtree::pops::keep_kid`: the record is the definition's.
-use Rattle.std.proofs.Common.{refl, rules}
+use Rattle.std.proofs.Common.{refl}
 use Rattle.rrbtree.specs.Pops.{keep_kid}
 use Rattle.rrbtree.proofs.pops.keep_kid.Goals as goal
 

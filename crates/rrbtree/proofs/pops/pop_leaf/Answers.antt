@@ -1,5 +1,4 @@
 -- `rrbtree::pops::pop_leaf`: the two cases are the definition's.
-use Rattle.std.proofs.Common.{rules}
 use Rattle.rrbtree.specs.Pops.{pop_of}
 use Rattle.rrbtree.proofs.pops.pop_leaf.Goals as goal
 

@@ -1,5 +1,4 @@
 -- `rrbtree::pops::take_leaf`: the store is the definition's.
-use Rattle.std.proofs.Common.{rules}
 use Rattle.rrbtree.specs.Pops.{take_leaf}
 use Rattle.rrbtree.proofs.pops.take_leaf.Goals as goal
 

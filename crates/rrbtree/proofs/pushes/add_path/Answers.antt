@@ -1,5 +1,5 @@
 -- `rrbtree::pushes::add_path`: the new path, and the link where there is a slot.
-use Rattle.std.proofs.Common.{rules, le-ltb, lt-ltb}
+use Rattle.std.proofs.Common.{le-ltb, lt-ltb}
 use Rattle.rrbtree.specs.Pushes.{add_path}
 use Rattle.rrbtree.proofs.pushes.add_path.Goals as goal
 

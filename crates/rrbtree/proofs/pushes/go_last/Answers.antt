@@ -1,5 +1,5 @@
 -- `rrbtree::pushes::go_last`: what is left of the way, on the words so far, is the whole way.
-use Rattle.std.proofs.Common.{◌≡◌, ℕ, List, length, sym, refl, ap, ◌∙◌, arith, rules}
+use Rattle.std.proofs.Common.{◌≡◌, ℕ, List, sym, refl, ap, ◌∙◌, arith}
 use Rattle.rrbtree.specs.Pushes.{go_last, last_more}
 use Rattle.rrbtree.proofs.pushes.go_last.Goals as goal
 

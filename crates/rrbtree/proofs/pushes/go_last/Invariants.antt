@@ -1,6 +1,6 @@
 -- `rrbtree::pushes::go_last`: what is left of the way, on the words so far, is the whole way.
-use Rattle.std.proofs.Common.{◌≡◌, ℕ, List, length, sym, refl, ap, ◌∙◌, arith, rules}
-use Rattle.rrbtree.specs.Pushes.{go_last, last_more}
+use Rattle.std.proofs.Common.{◌≡◌, length}
+use Rattle.rrbtree.specs.Pushes.{go_last}
 use Rattle.rrbtree.proofs.pushes.go_last.Given as goal
 
 abbrev pub invariant-loop-d : goal.invariant-loop-d

@@ -1,5 +1,5 @@
 -- `rrbtree::pushes::new_path`: after h turns h branches stand over the leaf.
-use Rattle.std.proofs.Common.{◌≡◌, ◌-◌, ◌≤◌, length, refl, ◌∙◌, arith, rules}
+use Rattle.std.proofs.Common.{◌≡◌, refl, ◌∙◌, arith}
 use Rattle.rrbtree.specs.Pushes.{risen_of, path_of, risen_more}
 use Rattle.rrbtree.proofs.pushes.new_path.Goals as goal
 

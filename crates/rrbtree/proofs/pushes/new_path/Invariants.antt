@@ -1,6 +1,6 @@
 -- `rrbtree::pushes::new_path`: after h turns h branches stand over the leaf.
-use Rattle.std.proofs.Common.{◌≡◌, ◌-◌, ◌≤◌, length, refl, ◌∙◌, arith, rules}
-use Rattle.rrbtree.specs.Pushes.{risen_of, path_of, risen_more}
+use Rattle.std.proofs.Common.{◌≡◌, ◌-◌, ◌≤◌, length}
+use Rattle.rrbtree.specs.Pushes.{risen_of}
 use Rattle.rrbtree.proofs.pushes.new_path.Given as goal
 
 abbrev pub invariant-loop-h : goal.invariant-loop-h

@@ -1,5 +1,4 @@
 -- `rrbtree::pushes::push_above`: a new root, and a path added to it.
-use Rattle.std.proofs.Common.{rules}
 use Rattle.blocks.specs.Chain.{alloc_of}
 use Rattle.rrbtree.specs.Pushes.{push_above}
 use Rattle.rrbtree.proofs.pushes.push_above.Goals as goal

@@ -1,5 +1,4 @@
 -- `rrbtree::pushes::push_at`: the way down, and a path added there.
-use Rattle.std.proofs.Common.{rules}
 use Rattle.rrbtree.specs.Pushes.{push_at}
 use Rattle.rrbtree.proofs.pushes.push_at.Goals as goal
 

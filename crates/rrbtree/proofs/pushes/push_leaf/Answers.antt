@@ -1,5 +1,4 @@
 -- `rrbtree::pushes::push_leaf`: each case of the room found is the definition's.
-use Rattle.std.proofs.Common.{rules}
 use Rattle.rrbtree.specs.Pushes.{push_of}
 use Rattle.rrbtree.proofs.pushes.push_leaf.Goals as goal
 

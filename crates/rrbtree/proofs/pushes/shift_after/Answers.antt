@@ -1,5 +1,4 @@
 -- `rrbtree::pushes::shift_after`: each case of the room found is the definition's.
-use Rattle.std.proofs.Common.{rules}
 use Rattle.rrbtree.specs.Pushes.{shift_after}
 use Rattle.rrbtree.proofs.pushes.shift_after.Goals as goal
 

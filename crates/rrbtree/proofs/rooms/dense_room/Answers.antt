@@ -1,6 +1,6 @@
 -- `rrbtree::rooms::dense_room`: what is left of the search is the whole search.
-use Rattle.std.proofs.Common.{◌≡◌, ℕ, ◌-◌, ◌/◌, ◌≤◌, sym, refl, ◌∙◌, arith, rules, eq-eqb, ne_eqb}
-use Rattle.rrbtree.specs.Rooms.{dense_room, dense_low, dense_on}
+use Rattle.std.proofs.Common.{◌-◌, ◌/◌, ◌≤◌, sym, refl, ◌∙◌, arith, eq-eqb, ne_eqb}
+use Rattle.rrbtree.specs.Rooms.{dense_low, dense_on}
 use Rattle.rrbtree.proofs.rooms.dense_room.Goals as goal
 
 pub loop-place-init : goal.loop-place-init

@@ -1,6 +1,6 @@
 -- `rrbtree::rooms::has_enough_capacity`: what is left of the search is the whole search; it goes down only above shift 0.
-use Rattle.std.proofs.Common.{◌≡◌, ℕ, ◌-◌, ◌≤◌, sym, refl, ◌∙◌, arith, rules, eq-eqb, ne_eqb}
-use Rattle.rrbtree.specs.Rooms.{room_of, search_of, search_ends, search_down, down_above}
+use Rattle.std.proofs.Common.{◌-◌, sym, refl, ◌∙◌, arith, eq-eqb, ne_eqb}
+use Rattle.rrbtree.specs.Rooms.{room_of, search_ends, search_down, down_above}
 use Rattle.rrbtree.proofs.rooms.has_enough_capacity.Goals as goal
 
 pub returns-then-t-eq0 : goal.returns-then-t-eq0

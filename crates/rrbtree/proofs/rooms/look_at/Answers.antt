@@ -1,5 +1,5 @@
 -- `rrbtree::rooms::look_at`: the tests are the definition's.
-use Rattle.std.proofs.Common.{rules, le-ltb, lt-ltb, eq-eqb, ne_eqb}
+use Rattle.std.proofs.Common.{le-ltb, lt-ltb, eq-eqb, ne_eqb}
 use Rattle.rrbtree.specs.Rooms.{look_of}
 use Rattle.rrbtree.proofs.rooms.look_at.Goals as goal
 

@@ -1,5 +1,4 @@
 -- `rrbtree::rooms::needs`: each case of the room found is the definition's.
-use Rattle.std.proofs.Common.{rules}
 use Rattle.rrbtree.specs.Rooms.{needs_of}
 use Rattle.rrbtree.proofs.rooms.needs.Goals as goal
 

@@ -1,5 +1,5 @@
 -- `rrbtree::rooms::relaxed_room`: the child, the rest of the place and the level are the definition's.
-use Rattle.std.proofs.Common.{rules, le-ltb, lt-ltb}
+use Rattle.std.proofs.Common.{le-ltb, lt-ltb}
 use Rattle.rrbtree.specs.Rooms.{relaxed_room}
 use Rattle.rrbtree.proofs.rooms.relaxed_room.Goals as goal
 

@@ -1,5 +1,4 @@
 -- `rrbtree::walks::get`: the slot read is the one found.
-use Rattle.std.proofs.Common.{rules}
 use Rattle.rrbtree.specs.Walks.{found_of}
 use Rattle.rrbtree.proofs.walks.get.Goals as goal
 

@@ -1,5 +1,5 @@
 -- `rrbtree::walks::go_down`: the slot is the definition's, by the kind.
-use Rattle.std.proofs.Common.{refl, rules, eq-eqb, ne_eqb}
+use Rattle.std.proofs.Common.{refl, eq-eqb, ne_eqb}
 use Rattle.rrbtree.specs.Walks.{down_same, down_of}
 use Rattle.rrbtree.proofs.walks.go_down.Goals as goal
 

@@ -1,5 +1,4 @@
 -- `rrbtree::walks::set`: the slot stored is the one found.
-use Rattle.std.proofs.Common.{rules}
 use Rattle.rrbtree.specs.Walks.{found_of}
 use Rattle.rrbtree.proofs.walks.set.Goals as goal
 

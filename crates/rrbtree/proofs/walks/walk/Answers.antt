@@ -1,7 +1,7 @@
 -- `rrbtree::walks::walk`: what is left of the walk is the whole walk.
-use Rattle.std.proofs.Common.{◌≡◌, ℕ, ◌-◌, ◌≤◌, sym, refl, ◌∙◌, arith, rules, eqb-true}
+use Rattle.std.proofs.Common.{◌-◌, sym, refl, ◌∙◌, arith, eqb-true}
 use borrow.Author.Tests.{eqb-false}
-use Rattle.rrbtree.specs.Walks.{walk_of, walk_leaf, walk_on}
+use Rattle.rrbtree.specs.Walks.{walk_leaf, walk_on}
 use Rattle.rrbtree.proofs.walks.walk.Goals as goal
 
 pub loop-s-init : goal.loop-s-init

@@ -1,7 +1,6 @@
 -- `rrbtree::walks::walk`: what is left of the walk is the whole walk.
-use Rattle.std.proofs.Common.{◌≡◌, ℕ, ◌-◌, ◌≤◌, sym, refl, ◌∙◌, arith, rules, eqb-true}
-use borrow.Author.Tests.{eqb-false}
-use Rattle.rrbtree.specs.Walks.{walk_of, walk_leaf, walk_on}
+use Rattle.std.proofs.Common.{◌≡◌, ℕ, ◌≤◌}
+use Rattle.rrbtree.specs.Walks.{walk_of}
 use Rattle.rrbtree.proofs.walks.walk.Given as goal
 
 abbrev pub invariant-loop-s : goal.invariant-loop-s
