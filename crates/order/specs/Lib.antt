@@ -1,5 +1,4 @@
 pub mod Insert
-pub mod Cases
 pub mod InOrder
 pub mod Bounds
 pub mod Appends

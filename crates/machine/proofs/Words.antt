@@ -5,12 +5,13 @@ use Rattle.std.proofs.Math.Path.{ap}
 use Rattle.lists.specs.Alls.{All, all_join, all_take, all_set}
 use Rattle.machine.specs.Sizes.{word_bound}
 use Rattle.machine.specs.Machine.{Rules, Place, State, Call, Open, Close, Push, Pop, Get, Set, Append, Length, IsEmpty, Held, Free, Check, place_at, ready, next, OfHost, Reached, made, called}
-use Rattle.machine.specs.Exact.{by_outcome}
+use Rattle.machine.proofs.Exact.{by_outcome}
 use Rattle.machine.specs.Laws.{Laws}
-use Rattle.machine.specs.Tables.{all_closed}
-use Rattle.machine.specs.Sound.{sound, made_is}
+use Rattle.machine.proofs.Tables.{all_closed}
+use Rattle.machine.proofs.Sound.{sound, made_is}
 use Rattle.machine.specs.Updates.{update}
-use Rattle.machine.specs.Contents.{contents_in, contents_at, list_at, plain, accepted_lists}
+use Rattle.machine.specs.Contents.{contents_in, contents_at, list_at, plain}
+use Rattle.machine.proofs.Contents.{accepted_lists}
 
 abbrev pub Words : List ℕ → Type 0
 Words xs = All (λ x. x < word_bound) xs

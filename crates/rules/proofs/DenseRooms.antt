@@ -13,8 +13,8 @@ use Rattle.lists.specs.Alls.{all_by_last}
 use Rattle.rules.specs.Trees.{Tree, nothing, count, size, others, last_kid}
 use Rattle.rules.specs.Rules.{deepest, room}
 use Rattle.rules.specs.Shape.{Full, Dense}
-use Rattle.rules.specs.Dense.{full_size, dense_split, dense_size, dense_full}
-use Rattle.rules.specs.Pushes.{not_yet}
+use Rattle.rules.proofs.Dense.{full_size, dense_split, dense_size, dense_full}
+use Rattle.rules.proofs.Pushes.{not_yet}
 
 module _ (S : ℕ) (two : 2 ≤ S) where
   -- room above height 1, in a Branch

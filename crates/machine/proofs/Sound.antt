@@ -17,9 +17,9 @@ use Rattle.machine.specs.Machine.{list_of, held_of, share_at, held_at, promised,
 use Rattle.machine.specs.Machine.{after_open, after_push, after_append, next, ready, make_ready, Reached, made, called}
 use Rattle.machine.specs.Numbers.{OpenAt, Accepts}
 use Rattle.machine.specs.Numbers.{opens, closes, pushes, pops, gets, sets, appends, lengths, is_emptys, is_not_emptys, helds, frees, checks}
-use Rattle.machine.specs.Exact.{by_outcome, by_lt, lowest_is}
+use Rattle.machine.proofs.Exact.{by_outcome, by_lt, lowest_is}
 use Rattle.machine.specs.Laws.{Laws}
-use Rattle.machine.specs.Tables.{at_put, at_put_other, inside, all_closed}
+use Rattle.machine.proofs.Tables.{at_put, at_put_other, inside, all_closed}
 
 module _ {T : Type 0} (R : Rules T) where
   -- Making ready answers 1 exactly when P or the table is too large; otherwise all is closed and free.

@@ -10,8 +10,8 @@ use Rattle.machine.specs.Machine.{list_of, held_of, pushed, popped, changed, aft
 use Rattle.machine.specs.Numbers.{OpenAt, Refuses, Accepts}
 use Rattle.machine.specs.Numbers.{open_9, open_8, open_6, close_2, push_2, push_5, push_6, pop_2, pop_4, get_2, get_4, set_2, set_4, append_1, append_2r, append_2g, append_3, append_5, append_6, length_2, is_empty_2, held_2}
 use Rattle.machine.specs.Numbers.{opens, closes, pushes, pops, gets, sets, appends, lengths, is_emptys, is_not_emptys, helds, frees, checks}
-use Rattle.machine.specs.Exact.{by_outcome}
-use Rattle.machine.specs.Tables.{at_put, inside}
+use Rattle.machine.proofs.Exact.{by_outcome}
+use Rattle.machine.proofs.Tables.{at_put, inside}
 use Rattle.machine.specs.Updates.{update}
 use Rattle.machine.specs.Chosen.{Names, none, one, last, two, names, is_six}
 

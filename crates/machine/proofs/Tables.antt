@@ -5,7 +5,7 @@ use Rattle.std.proofs.Math.ListN.{get_or-eq_default}
 use Rattle.std.proofs.lemmas.List.{set-get_or}
 use Rattle.machine.specs.Machine.{Head, Place, closed, State, place_at, put}
 use Rattle.machine.specs.Numbers.{OpenAt}
-use Rattle.machine.specs.Exact.{by_lt}
+use Rattle.machine.proofs.Exact.{by_lt}
 
 -- what stands where after a put
 pub at_put : {T : Type 0} (s : State T) (v : ℕ) (p : Place T) → v < length s.table → place_at (put s v p) v ≡ p

@@ -12,13 +12,13 @@ use Rattle.lists.specs.Cuts.{ceil, ceil_le, ceil_ge}
 use Rattle.rules.specs.Trees.{Tree, Slot, nothing, count, others, last_kid, first_kid, later_kids, Root}
 use Rattle.rules.specs.Rules.{build, pour, repack, ascend, Meet, leaves, level, left_taller, right_taller, meet, merge, join}
 use Rattle.rules.specs.Shape.{CountFits, Edge, Kinds, Packed, Crowded, Front, Top, Wide, Sound}
-use Rattle.rules.specs.Dense.{tidy_edge, tidy_kinds}
-use Rattle.rules.specs.Pops.{lower_sound}
-use Rattle.rules.specs.Pours.{repack_full, repack_leaves, pour_cons, pour-length, pour_counts, repack-length, repack_counts}
-use Rattle.rules.specs.Packs.{Small, packed_take, pour_packed, repack_packed, repack_small, crowded}
-use Rattle.rules.specs.Rows.{Row, build_row}
-use Rattle.rules.specs.MergeSlots.{meet_le, front_count, first_edge, enough_below, merge-slots}
-use Rattle.rules.specs.MergeRows.{row_sized, sized_sum, row_first, kids_row, level_items, left_items, right_items, merge_row, merge_few}
+use Rattle.rules.proofs.Dense.{tidy_edge, tidy_kinds}
+use Rattle.rules.proofs.Pops.{lower_sound}
+use Rattle.rules.proofs.Pours.{repack_full, repack_leaves, pour_cons, pour-length, pour_counts, repack-length, repack_counts}
+use Rattle.rules.proofs.Packs.{Small, packed_take, pour_packed, repack_packed, repack_small, crowded}
+use Rattle.rules.proofs.Rows.{Row, build_row}
+use Rattle.rules.proofs.MergeSlots.{meet_le, front_count, first_edge, enough_below, merge-slots}
+use Rattle.rules.proofs.MergeRows.{row_sized, sized_sum, row_first, kids_row, level_items, left_items, right_items, merge_row, merge_few}
 
 module _ (S : ℕ) (two : 2 ≤ S) where
   pos : 0 < S

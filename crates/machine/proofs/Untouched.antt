@@ -11,8 +11,8 @@ use Rattle.machine.specs.Machine.{Call}
 use Rattle.machine.specs.Machine.{fresh, joined, emptied, after_open, after_push, after_append, next}
 use Rattle.machine.specs.Numbers.{OpenAt, Accepts}
 use Rattle.machine.specs.Numbers.{opens, closes, pushes, pops, gets, sets, appends, lengths, is_emptys, is_not_emptys, helds, frees, checks}
-use Rattle.machine.specs.Exact.{by_outcome, lowest_is}
-use Rattle.machine.specs.Tables.{at_put, at_put_other, inside}
+use Rattle.machine.proofs.Exact.{by_outcome, lowest_is}
+use Rattle.machine.proofs.Tables.{at_put, at_put_other, inside}
 use Rattle.machine.specs.Chosen.{last, names, on}
 
 pub or_none : (a b : Bool) → (a || b) ≡ false → (a ≡ false) × (b ≡ false)

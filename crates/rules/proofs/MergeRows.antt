@@ -11,9 +11,9 @@ use Rattle.lists.specs.Cuts.{ceil, ceil_le, ceil_ge}
 use Rattle.rules.specs.Trees.{Tree, nothing, count, others, last_kid, first_kid, later_kids}
 use Rattle.rules.specs.Rules.{Meet, leaves, level, left_taller, right_taller, repack, ascend, merge}
 use Rattle.rules.specs.Shape.{CountFits, Tidy, Edge, Kinds}
-use Rattle.rules.specs.Dense.{tidy_edge, tidy_kinds}
-use Rattle.rules.specs.Pours.{pour-length, repack-length}
-use Rattle.rules.specs.Rows.{Row, tidy_row, row_join, row_of, repack_tidy, ascend_tidy, ascend_row}
+use Rattle.rules.proofs.Dense.{tidy_edge, tidy_kinds}
+use Rattle.rules.proofs.Pours.{pour-length, repack-length}
+use Rattle.rules.proofs.Rows.{Row, tidy_row, row_join, row_of, repack_tidy, ascend_tidy, ascend_row}
 
 module _ (S : ℕ) (two : 2 ≤ S) where
   pos : 0 < S

@@ -14,7 +14,7 @@ use Rattle.lists.specs.Cuts.{cut, by_pieces}
 use Rattle.rules.specs.Trees.{Tree, Slot, slots, nothing, count}
 use Rattle.rules.specs.Rules.{is_full, make, pour, repack}
 use Rattle.rules.specs.Shape.{Packed, Crowded}
-use Rattle.rules.specs.Pours.{make-count, full_is}
+use Rattle.rules.proofs.Pours.{make-count, full_is}
 
 module _ (S : ℕ) (two : 2 ≤ S) where
   pos : 0 < S

@@ -12,10 +12,10 @@ use Rattle.lists.specs.Cuts.{ceil, ceil_ge}
 use Rattle.rules.specs.Trees.{Tree, nothing, count, others, last_kid, first_kid, later_kids}
 use Rattle.rules.specs.Rules.{Meet, leaves, level, left_taller, right_taller, merge}
 use Rattle.rules.specs.Shape.{CountFits, Tidy, Edge, Crowded, Front}
-use Rattle.rules.specs.Dense.{tidy_edge}
-use Rattle.rules.specs.Pours.{repack_counts}
-use Rattle.rules.specs.MergeNodes.{ascend_counts}
-use Rattle.rules.specs.MergeRows.{edge_sized, tidy_sized}
+use Rattle.rules.proofs.Dense.{tidy_edge}
+use Rattle.rules.proofs.Pours.{repack_counts}
+use Rattle.rules.proofs.MergeNodes.{ascend_counts}
+use Rattle.rules.proofs.MergeRows.{edge_sized, tidy_sized}
 
 pub meet_le : {h k m : ℕ} → Meet h k m → k ≤ m
 meet_le leaves = omega arith

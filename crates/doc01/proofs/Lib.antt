@@ -1,0 +1,4 @@
+pub mod Trees
+pub mod Counts
+pub mod Demands
+pub mod Levels

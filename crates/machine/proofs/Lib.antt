@@ -1,0 +1,11 @@
+pub mod Cases
+pub mod Exact
+pub mod Tables
+pub mod Sound
+pub mod Reserve
+pub mod Updates
+pub mod Contents
+pub mod Words
+pub mod Solo
+pub mod Untouched
+pub mod Isolation
