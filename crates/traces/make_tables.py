@@ -196,10 +196,9 @@ def printed(oracle, w):
 
 def table(name, title, slots, seed, oracle):
     text = [f'-- {title} Made by make_tables.py; the texts are what the oracle printed.',
-            'use mathlib.Core.List.{List, [], _∷_}',
-            'use mathlib.Core.Bool.{true}',
-            'use Rattle·machine.specs.Machine.{Open, Close, Get, Set, Append, Length, Held, Free, Check}',
-            'use Rattle·traces·specs.specs.Told.{History, call, pushes, pops}',
+            'use Rattle.std.specs.Prelude.{List, [], ◌∷◌, true}',
+            'use Rattle.machine.specs.Machine.{Open, Close, Get, Set, Append, Length, Held, Free, Check}',
+            'use Rattle.traces.specs.Told.{History, call, pushes, pops}',
             '',
             f'abbrev pub histories : List History',
             'histories =']
