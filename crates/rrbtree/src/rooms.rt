@@ -50,6 +50,7 @@ fn dense_room(pool: &[u64], b: usize, shift: Shift, place: Index) -> usize
 }
 
 // A relaxed branch above shift 5 sends the search on to its last child.
+#[tactic(auto, unfolding(crate::specs::Rooms::relaxed_room))]
 fn relaxed_room(pool: &[u64], b: usize, shift: Shift, place: Index, level: usize) -> Look
     ensures { result ≡ relaxed_room pool.now b shift.0 place.0 level }
 {
