@@ -39,6 +39,9 @@ def page(text, table):
 
 
 def main():
+    if os.path.exists(os.path.join("docs", "PORT.md")):
+        # A second run would turn some names once more: `node_at` is a new name and, of another lemma, an old one.
+        return "respell: this repository is turned already (docs/PORT.md): nothing was written"
     with open(os.path.join(HERE, "respell.tsv"), encoding="utf-8") as f:
         table = dict(line.rstrip("\n").split("\t") for line in f)
     for folder, dirs, files in os.walk("."):

@@ -1,4 +1,4 @@
--- "Counts to reproduce": the (P) rows as one table of calls and answers, computed on the machine with its trees of 32 slots.
+-- The table of the (P) rows, computed.
 use Rattle.std.specs.Prelude.{ℕ, ◌*◌, ◌/◌, ◌≤◌, ◌≡◌, refl}
 use Rattle.std.proofs.Common.{arith, le-ltb}
 use Rattle.lists.specs.Cuts.{cut}

@@ -20,7 +20,7 @@ use Rattle.machine.specs.Numbers.{OpenAt, Accepts, gets, pops, helds, frees, che
 use Rattle.machine.proofs.Exact.{numbers, accepts_exactly, refusal_leaves, accepts_step}
 use Rattle.machine.proofs.Exact.{never_7 as no_seven}
 use Rattle.machine.proofs.Sound.{few, sound, free-held}
-use Rattle.machine.proofs.Sound.{made_or_1 as made-exactly}
+use Rattle.machine.proofs.Sound.{made_or_1 as made_exactly}
 use Rattle.machine.proofs.Reserve.{reserve_clause, append_empty_giver}
 use Rattle.machine.proofs.Contents.{list_is, plain_lists, by_rules}
 use Rattle.machine.proofs.Words.{words_only}
@@ -99,7 +99,7 @@ module _ (S W : ℕ) (two : 2 ≤ S) where
       let G = SoundVector S in
       let L = tree_laws S W two in
       record {
-        made_or_1 = made-exactly R;
+        made_or_1 = made_exactly R;
         refused_exactly = λ {s} r c n. numbers R s c n;
         refused_changes_nothing = λ {s} r c n e. refusal_leaves R s c n e;
         accepted_exactly = λ {s} r c t a h. accepts_exactly R s t c a h;

@@ -1,4 +1,4 @@
--- The machine's rules are the tree rules, of S slots and blocks of W words, and the machine's laws hold of them.
+-- The machine's laws hold of the tree rules.
 use Rattle.std.specs.Prelude.{ℕ, ◌-◌, ◌≤◌, ◌≡◌, refl, length, take}
 use Rattle.std.proofs.Common.{sym, length-append, take_at}
 use mathlib.Core.List.{List, [], ◌∷◌, ◌++◌}

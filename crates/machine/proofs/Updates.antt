@@ -1,4 +1,4 @@
--- Something for each vector number, with one of them replaced.
+-- Where something for each vector number is replaced, and where not.
 use Rattle.std.specs.Prelude.{ℕ, ◌≡◌, refl, Bool, true, false, cond, eqb}
 use Rattle.std.proofs.Common.{sym, ◌∙◌, ap, eq-eqb, ne_eqb}
 use Rattle.std.proofs.Math.Decide.{ℕ_discrete}

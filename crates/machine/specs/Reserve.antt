@@ -1,4 +1,4 @@
--- The reserve clause, and the append of an empty giver: calls that shares cannot refuse.
+-- The calls that the reserve clause speaks of.
 -- Definitions here; what is proved of them is in proofs/Reserve.antt.
 use Rattle.std.specs.Prelude.{ℕ, ◌≤◌, Bool}
 use Rattle.machine.specs.Machine.{Rules, Head, State, Call, Push, Append}

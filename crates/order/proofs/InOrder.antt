@@ -1,5 +1,4 @@
--- A merge in two passes: down, each level's nodes beside the two ways are packed; up, the slots from below are put in, until one
--- node is left at or above both trees. It gives the rules' join.
+-- The merge in two passes gives the rules' join.
 use Prim.Native.Nat.{ℕ, zero, suc, ◌<◌, ◌≤◌}
 use Rattle.std.specs.Prelude.{◌≡◌, length}
 use Rattle.std.proofs.Math.Path.{refl, sym, ap}

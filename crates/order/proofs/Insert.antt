@@ -1,5 +1,4 @@
--- Nodes of one level packed, and slots put in at a place: what an append in place does at each level. Packing the nodes beside
--- the way first and putting the slots from below in afterwards gives what the rules give.
+-- Packing the nodes beside the way first and putting the slots from below in afterwards gives what the rules give.
 use Prim.Native.Nat.{ℕ, suc, ◌+◌, ◌-◌, ◌*◌, ◌/◌, ◌%◌, ◌<◌}
 use Rattle.std.specs.Prelude.{◌≡◌, Bool, length, take, drop}
 use Rattle.std.proofs.Math.Path.{refl, sym, ap}

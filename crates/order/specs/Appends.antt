@@ -1,4 +1,4 @@
--- An append of two trees in order, the receiver's short tail not yet pushed: the rules' append, within the bounds.
+-- The bounds of an append in order: rows and what goes up stay short.
 -- Definitions here; what is proved of them is in proofs/Appends.antt.
 use Rattle.std.specs.Prelude.{ℕ, ◌*◌, ◌≤◌, length}
 use Rattle.rules.specs.Sides.{merge_sides, Meeting}

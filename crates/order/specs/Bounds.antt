@@ -1,5 +1,4 @@
--- How many nodes the two passes go through: packing makes no more of them, putting in no fewer; a row has at most 2 S - 2
--- nodes, and at most 2 S slots go up.
+-- Rows, and both sides of a merge, with few nodes at each level.
 -- Definitions here; what is proved of them is in proofs/Bounds.antt.
 use Prim.Native.Nat.{ℕ, zero, suc, ◌<◌, ◌≤◌}
 use Rattle.std.specs.Prelude.{List}

@@ -1,5 +1,5 @@
 -- A merge in two passes: down, each level's nodes beside the two ways are packed; up, the slots from below are put in, until one
--- node is left at or above both trees. It gives the rules' join.
+-- node is left at or above both trees.
 -- Definitions here; what is proved of them is in proofs/InOrder.antt.
 use Prim.Native.Nat.{ℕ, zero, suc}
 use mathlib.Core.List.{List, [], ◌∷◌, ◌++◌}

@@ -1,5 +1,4 @@
--- Nodes of one level packed, and slots put in at a place: what an append in place does at each level. Packing the nodes beside
--- the way first and putting the slots from below in afterwards gives what the rules give.
+-- Nodes of one level packed, and slots put in at a place: what an append in place does at each level.
 -- Definitions here; what is proved of them is in proofs/Insert.antt.
 use Prim.Native.Nat.{ℕ, suc, ◌-◌, ◌*◌, ◌/◌, ◌%◌}
 use Rattle.std.specs.Prelude.{◌&&◌, length, take, drop}

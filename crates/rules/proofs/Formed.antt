@@ -1,4 +1,4 @@
--- Document 01's "well formed", in its words: what it says of a tree, a sentence a definition; sound trees are so.
+-- Sound trees are well formed, as specs/Formed.antt says it in document 01's words.
 use Prim.Native.Nat.{ℕ, zero, suc, ◌+◌, ◌*◌, ◌%◌, ◌^◌, ◌≤◌}
 use Rattle.std.specs.Prelude.{◌≡◌}
 use Rattle.std.proofs.Math.Path.{sym, ap}

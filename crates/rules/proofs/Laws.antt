@@ -1,4 +1,4 @@
--- The laws of one vector, for every slot count from 2 on.
+-- The laws of one vector hold for every slot count from 2 on.
 use Rattle.std.specs.Prelude.{ℕ, ◌<◌, ◌≤◌}
 use Rattle.std.proofs.Common.{arith}
 use Rattle.rules.proofs.Meaning.{push_is, append_is}

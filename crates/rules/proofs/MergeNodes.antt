@@ -1,5 +1,4 @@
--- How many nodes a merge makes, from counts alone: level by level the slots that are there, divided by S and rounded up, are
--- the nodes of that level and so slots of the next.
+-- A merge makes as many nodes as specs/MergeNodes.antt works out from counts alone.
 use Prim.Native.Nat.{ℕ, zero, suc, ◌+◌, ◌<◌}
 use Rattle.std.specs.Prelude.{◌≡◌, refl, List, [], ◌∷◌, ◌++◌, length}
 use Rattle.std.proofs.Common.{sym, ◌∙◌, ne_eqb}

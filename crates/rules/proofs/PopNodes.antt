@@ -1,4 +1,4 @@
--- How many nodes a leaf pop frees.
+-- A leaf pop frees the nodes that specs/PopNodes.antt reads off the tree.
 use Rattle.std.specs.Prelude.{ℕ, zero, suc, ◌+◌, ◌-◌, ◌≤◌, ◌≡◌, refl, List, [], ◌∷◌, ◌++◌, true, false, cond, eqb, length}
 use Rattle.std.proofs.Common.{ap, arith, eq-eqb, ne_eqb}
 use Rattle.std.proofs.Math.Bool.{and-false}

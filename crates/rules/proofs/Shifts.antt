@@ -1,4 +1,4 @@
--- The slot count as a power of 2: places by shifts, as document 01 writes them.
+-- The slot count as a power of 2: places by shifts are the rules' places, as document 01 writes them.
 use Rattle.std.specs.Prelude.{ℕ, zero, suc, ◌*◌, ◌/◌, ◌%◌, ◌^◌, ◌≤◌, ◌≡◌, false}
 use Rattle.std.proofs.Common.{sym, ◌∙◌, ap, arith, pow-suc, mul-suc, mul-zero, pow-add, pow_pos}
 use Rattle.std.proofs.Math.Nat.{pow-zero}

@@ -1,5 +1,4 @@
--- What a merge sees of two trees: the leaf at which each meets the other and, level by level, the children beside the way
--- down to it. A leaf that is to be pushed first need not be in the tree yet: the room found says what it will stand beside.
+-- A merge and a join come from the two sides and the leaves that meet alone; and how many nodes the sides have.
 use Rattle.std.specs.Prelude.{ℕ, zero, suc, ◌+◌, ◌-◌, ◌<◌, ◌≤◌, ◌≡◌, refl, List, [], ◌∷◌, ◌++◌, Bool, false}
 use Rattle.std.proofs.Common.{sym, ◌∙◌, ap, append-nil, arith, eq-eqb, ne_eqb}
 use Rattle.std.proofs.Math.Option.{Option, none, some, none-ne-some, some-injective}

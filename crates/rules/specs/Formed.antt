@@ -1,4 +1,4 @@
--- Document 01's "well formed", in its words: what it says of a tree, a sentence a definition; sound trees are so.
+-- Document 01's "well formed", in its words: what it says of a tree, a sentence a definition.
 -- Definitions here; what is proved of them is in proofs/Formed.antt.
 use Prim.Native.Nat.{ℕ, zero, suc, ◌%◌, ◌<◌, ◌≤◌}
 use Rattle.std.specs.Prelude.{◌≡◌, true, false}

@@ -1,4 +1,4 @@
--- Held after a push and after an append, from the room found and from counts: known before anything changes.
+-- The nodes on the way to where the receiver's leaf is, or its tail is to hang: what held after an append is worked out with.
 -- Definitions here; what is proved of them is in proofs/HeldAfter.antt.
 use Prim.Native.Nat.{ℕ, suc, ◌-◌}
 use Rattle.std.specs.Prelude.{List, [], ◌∷◌}

@@ -1,4 +1,4 @@
--- Where a leaf push puts the leaf, and how many nodes it makes: as many as the room found is high.
+-- The nodes that a leaf push adds: as many as the room found is high.
 -- Definitions here; what is proved of them is in proofs/PushNodes.antt.
 use Rattle.std.specs.Prelude.{ℕ, ◌+◌}
 use Rattle.std.proofs.Math.Option.{Option, none, some}

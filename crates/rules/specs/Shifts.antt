@@ -1,4 +1,4 @@
--- The slot count as a power of 2: places by shifts, as document 01 writes them.
+-- The shift of a level.
 -- Definitions here; what is proved of them is in proofs/Shifts.antt.
 use Rattle.std.specs.Prelude.{ℕ, ◌*◌}
 

@@ -1,5 +1,5 @@
 -- `blocks::free_all`: after b turns the first b blocks are on the chain.
-use mathlib.Core.Path.{◌≡◌, refl}
+use mathlib.Core.Path.{refl}
 use native.Mathlib.Omega.{arith}
 use Rattle.blocks.specs.Chain.{chained_of, chained_more}
 use Rattle.blocks.proofs.free_all.Goals as goal
@@ -10,9 +10,3 @@ loop-b-init c = (omega arith, refl)
 
 pub loop-b-preserved : goal.loop-b-preserved
 loop-b-preserved c = (omega arith, cc (chained_more _ _))
-
-pub returns : goal.returns
-returns c =
-    let l = c.loop-b in
-    let e : l.b ≡ c.total-n.result = omega arith in
-    cc

@@ -1,10 +1,7 @@
 -- `merging::merges::add_items`: the nodes still to be added, on the area so far, are those of the whole.
-use Rattle.std.proofs.Common.{sym, refl, ◌∙◌}
+use Rattle.std.proofs.Common.{sym, ◌∙◌}
 use Rattle.merging.specs.Merges.{add_items, add_at, add_end}
 use Rattle.merging.proofs.merges.add_items.Goals as goal
-
-pub loop-i-init : goal.loop-i-init
-loop-i-init c = (refl, refl)
 
 pub loop-i-preserved : goal.loop-i-preserved
 loop-i-preserved c =

@@ -1,13 +1,7 @@
 -- `merging::merges::lift_leaf`: the elements still to go up, on the area so far, are those of the whole leaf.
-use Rattle.std.proofs.Common.{◌≡◌, ◌-◌, sym, refl, ◌∙◌, arith}
+use Rattle.std.proofs.Common.{sym, ◌∙◌}
 use Rattle.merging.specs.Merges.{lift_leaf, lift_at, lift_end}
 use Rattle.merging.proofs.merges.lift_leaf.Goals as goal
-
-pub loop-i-init : goal.loop-i-init
-loop-i-init c =
-    let n = c.count-n.result in
-    let e : n - 0 ≡ n = omega arith in
-    (rw e, refl)
 
 pub loop-i-preserved : goal.loop-i-preserved
 loop-i-preserved c =

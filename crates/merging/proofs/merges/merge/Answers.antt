@@ -1,5 +1,5 @@
 -- `merging::merges::merge`: the recursion, and one or two heights above it.
-use Rattle.std.proofs.Common.{refl, arith}
+use Rattle.std.proofs.Common.{refl}
 use Rattle.merging.specs.Merges.{merge_one, merge_two, merged_same}
 use Rattle.merging.specs.Packs.{triple_same}
 use Rattle.merging.proofs.merges.merge.Goals as goal
@@ -12,15 +12,6 @@ returns-then-one-lt2 c =
     rw (merge_one a.pool.now a.st a.work.now a.tail.now a.p _ (m.result, m.new.pool, m.new.work) (o.result, o.new.pool, o.new.work)
     c.clear.ensures (triple_same _ _ _ _ m.ensures) (triple_same _ _ _ _ o.ensures) c.if-one-lt2.true)
     (merged_same _ _ _ _ c.get.ensures c.at.ensures refl, (refl, refl))
-
-pub overflow_add-top : goal.overflow_add-top
-overflow_add-top c = omega (arith, c.requires.1)
-
-pub insert-two-requires : goal.insert-two-requires
-insert-two-requires c = omega (arith, c.requires.1)
-
-pub overflow_add-top-2 : goal.overflow_add-top-2
-overflow_add-top-2 c = omega (arith, c.requires.1)
 
 pub returns : goal.returns
 returns c =

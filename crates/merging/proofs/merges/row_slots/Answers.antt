@@ -1,15 +1,9 @@
 -- `merging::merges::row_slots`: the sum so far and the slots still to be counted are the whole.
-use Rattle.std.proofs.Common.{◌≡◌, ◌-◌, arith}
+use Rattle.std.proofs.Common.{◌≡◌, arith}
 use Rattle.blocks.specs.Words.{count_of}
 use Rattle.merging.specs.Areas.{item_of}
 use Rattle.merging.specs.Merges.{row_slots, slots_at, slots_end}
 use Rattle.merging.proofs.merges.row_slots.Goals as goal
-
-pub loop-i-init : goal.loop-i-init
-loop-i-init c =
-    let n = c.row_len-n.result in
-    let e : n - 0 ≡ n = omega arith in
-    (omega arith, rw e (omega arith))
 
 pub loop-i-preserved : goal.loop-i-preserved
 loop-i-preserved c =

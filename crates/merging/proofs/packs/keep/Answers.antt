@@ -1,10 +1,7 @@
 -- `merging::packs::keep`: the nodes still to be kept, on the area so far, are those of the whole run.
-use Rattle.std.proofs.Common.{sym, refl, ◌∙◌, arith}
+use Rattle.std.proofs.Common.{sym, ◌∙◌, arith}
 use Rattle.merging.specs.Packs.{keep_at, keep_end}
 use Rattle.merging.proofs.packs.keep.Goals as goal
-
-pub loop-i-init : goal.loop-i-init
-loop-i-init c = (omega arith, refl, refl)
 
 pub loop-i-preserved : goal.loop-i-preserved
 loop-i-preserved c =

@@ -1,13 +1,7 @@
 -- `merging::packs::lay_nodes`: the stores still to come, on the area so far, are those of the whole run.
-use Rattle.std.proofs.Common.{◌≡◌, ◌-◌, sym, refl, ◌∙◌, arith}
+use Rattle.std.proofs.Common.{sym, ◌∙◌, arith}
 use Rattle.merging.specs.Packs.{lay_at, lay_end}
 use Rattle.merging.proofs.packs.lay_nodes.Goals as goal
-
-pub loop-i-init : goal.loop-i-init
-loop-i-init c =
-    let n = c.args.c in
-    let e : n - 0 ≡ n = omega arith in
-    (omega arith, rw e, refl)
 
 pub loop-i-preserved : goal.loop-i-preserved
 loop-i-preserved c =

@@ -1,10 +1,7 @@
 -- `merging::packs::leading`: what is left of the search is the whole search.
-use Rattle.std.proofs.Common.{sym, refl, ◌∙◌, arith, eq-eqb, ne_eqb}
+use Rattle.std.proofs.Common.{sym, ◌∙◌, arith, eq-eqb, ne_eqb}
 use Rattle.merging.specs.Packs.{lead_at, lead_end}
 use Rattle.merging.proofs.packs.leading.Goals as goal
-
-pub loop-i-init : goal.loop-i-init
-loop-i-init c = (omega arith, omega arith, refl)
 
 pub loop-i-preserved : goal.loop-i-preserved
 loop-i-preserved c =

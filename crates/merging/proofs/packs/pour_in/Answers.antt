@@ -1,10 +1,7 @@
 -- `merging::packs::pour_in`: the nodes still to be written, on the words so far, are those of the whole; the slots left are the total less 32 for each node.
-use Rattle.std.proofs.Common.{◌-◌, sym, refl, ap, ◌∙◌, arith}
+use Rattle.std.proofs.Common.{◌-◌, sym, ap, ◌∙◌, arith}
 use Rattle.merging.specs.Packs.{Out, pour_in, pour_at, pour_end}
 use Rattle.merging.proofs.packs.pour_in.Goals as goal
-
-pub loop-left-init : goal.loop-left-init
-loop-left-init c = (c.args.total, omega arith, omega arith, omega arith, refl, refl, refl)
 
 pub loop-left-preserved : goal.loop-left-preserved
 loop-left-preserved c =
@@ -19,9 +16,6 @@ loop-left-preserved c =
       c.write_node.auto.pool ∙ l.invariant.5,
       c.put.auto.work ∙ l.invariant.6,
     )
-
-pub overflow_add-result : goal.overflow_add-result
-overflow_add-result c = omega (arith, c.loop-left.invariant.3)
 
 pub returns : goal.returns
 unfolding pour_in

@@ -1,16 +1,7 @@
 -- `merging::packs::pour_out`: of a node, the slots still to be laid, and of the row, the nodes still to be laid, are the whole; a flat slot and a gap at most are passed each time.
-use Rattle.std.proofs.Common.{◌≡◌, ℕ, ◌-◌, List, sym, refl, ap, ◌∙◌, arith}
+use Rattle.std.proofs.Common.{ℕ, List, sym, ap, ◌∙◌, arith}
 use Rattle.merging.specs.Packs.{pour_out, node-at, node_end, nodes_at, nodes_end}
 use Rattle.merging.proofs.packs.pour_out.Goals as goal
-
-pub nodes-init : goal.nodes-init
-nodes-init c = (omega (arith, c.past_gap-t.ensures.1), omega arith, omega arith, refl, refl)
-
-pub loop-s-init : goal.loop-s-init
-loop-s-init c =
-    let m = c.count-m.result in
-    let e : m - 0 ≡ m = omega arith in
-    (omega arith, omega arith, rw e, refl)
 
 pub nodes-preserved : goal.nodes-preserved
 nodes-preserved c =

@@ -1,11 +1,8 @@
 -- `merging::packs::release_items`: the nodes still to be released, on the words so far, are those of the whole run.
-use Rattle.std.proofs.Common.{ℕ, List, sym, refl, ap, ◌∙◌}
+use Rattle.std.proofs.Common.{ℕ, List, sym, ap, ◌∙◌}
 use Rattle.blocks.specs.declared.State.{State}
 use Rattle.merging.specs.Packs.{release_items, release_at, release_end}
 use Rattle.merging.proofs.packs.release_items.Goals as goal
-
-pub loop-i-init : goal.loop-i-init
-loop-i-init c = (refl, refl)
 
 pub loop-i-preserved : goal.loop-i-preserved
 loop-i-preserved c =

@@ -1,10 +1,7 @@
 -- `merging::plans::counts`: the sum so far and the counts still to come are the whole.
-use Rattle.std.proofs.Common.{sym, refl, ◌∙◌}
+use Rattle.std.proofs.Common.{sym, ◌∙◌}
 use Rattle.merging.specs.Plans.{counts_of, counts_at, counts_end}
 use Rattle.merging.proofs.plans.counts.Goals as goal
-
-pub loop-i-init : goal.loop-i-init
-loop-i-init c = refl
 
 pub loop-i-preserved : goal.loop-i-preserved
 loop-i-preserved c =

@@ -3,10 +3,6 @@ use Rattle.std.proofs.Common.{sym, ◌∙◌, arith, le-ltb, lt-ltb}
 use Rattle.node.specs.Branches.{above_of, first_at, first_end}
 use Rattle.node.proofs.branches.first_above.Goals as goal
 
-pub loop-i-init : goal.loop-i-init
-unfolding above_of
-loop-i-init c = (omega arith, rw c.child-i.ensures)
-
 pub loop-i-preserved : goal.loop-i-preserved
 loop-i-preserved c =
     let l = c.loop-i in

@@ -1,13 +1,7 @@
 -- `node::builds::any_thin`: what is left of the search is the whole search.
-use Rattle.std.proofs.Common.{◌≡◌, ◌-◌, sym, ◌∙◌, arith}
+use Rattle.std.proofs.Common.{sym, ◌∙◌, arith}
 use Rattle.node.specs.Builds.{any_at, any_end}
 use Rattle.node.proofs.builds.any_thin.Goals as goal
-
-pub loop-i-init : goal.loop-i-init
-loop-i-init c =
-    let n = c.args.n in
-    let e : n - 0 ≡ n = omega arith in
-    (omega arith, rw e)
 
 pub returns-then-is_thin : goal.returns-then-is_thin
 returns-then-is_thin c =

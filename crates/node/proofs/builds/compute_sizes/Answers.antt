@@ -1,13 +1,7 @@
 -- `node::builds::compute_sizes`: the entries still to come, on the words so far, are those of the whole table.
-use Rattle.std.proofs.Common.{◌≡◌, ◌-◌, sym, refl, ◌∙◌, arith}
+use Rattle.std.proofs.Common.{sym, ◌∙◌, arith}
 use Rattle.node.specs.Builds.{sizes_at, sizes_end}
 use Rattle.node.proofs.builds.compute_sizes.Goals as goal
-
-pub loop-i-init : goal.loop-i-init
-loop-i-init c =
-    let n = c.args.n in
-    let e : n - 0 ≡ n = omega arith in
-    (omega arith, rw e, refl)
 
 pub loop-i-preserved : goal.loop-i-preserved
 loop-i-preserved c =

@@ -1,17 +1,8 @@
 -- `node::builds::size_sub_trie`: the sum so far, with what is below the block reached, is the whole.
-use Rattle.std.proofs.Common.{◌-◌, sym, refl, ◌∙◌, arith, eq-eqb, ne_eqb, eqb-true}
+use Rattle.std.proofs.Common.{◌-◌, sym, ◌∙◌, arith, eq-eqb, ne_eqb, eqb-true}
 use borrow.Author.Tests.{eqb-false}
 use Rattle.node.specs.Builds.{sub_at, sub_leaf}
 use Rattle.node.proofs.builds.size_sub_trie.Goals as goal
-
-pub loop-s-init : goal.loop-s-init
-loop-s-init c = (c.args.shift.0, omega arith, refl)
-
-pub loop-s-smaller : goal.loop-s-smaller
-loop-s-smaller c =
-    let l = c.loop-s in
-    let n = eqb-false l.s.0 0 (sym c.is_leaf_level.ensures ∙ c.if-is_leaf_level.false) in
-    omega (arith, c.dec-s.ensures)
 
 pub loop-s-preserved : goal.loop-s-preserved
 loop-s-preserved c =

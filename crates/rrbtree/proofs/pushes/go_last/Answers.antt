@@ -1,10 +1,7 @@
 -- `rrbtree::pushes::go_last`: what is left of the way, on the words so far, is the whole way.
-use Rattle.std.proofs.Common.{◌≡◌, ℕ, List, sym, refl, ap, ◌∙◌, arith}
+use Rattle.std.proofs.Common.{◌≡◌, ℕ, List, sym, ap, ◌∙◌, arith}
 use Rattle.rrbtree.specs.Pushes.{go_last, last_more}
 use Rattle.rrbtree.proofs.pushes.go_last.Goals as goal
-
-pub loop-d-init : goal.loop-d-init
-loop-d-init c = (refl, refl)
 
 pub loop-d-preserved : goal.loop-d-preserved
 loop-d-preserved c =

@@ -1,13 +1,7 @@
 -- `rrbtree::rooms::dense_room`: what is left of the search is the whole search.
-use Rattle.std.proofs.Common.{◌-◌, ◌/◌, ◌≤◌, sym, refl, ◌∙◌, arith, eq-eqb, ne_eqb}
+use Rattle.std.proofs.Common.{◌-◌, ◌/◌, ◌≤◌, sym, ◌∙◌, arith, eq-eqb, ne_eqb}
 use Rattle.rrbtree.specs.Rooms.{dense_low, dense_on}
 use Rattle.rrbtree.proofs.rooms.dense_room.Goals as goal
-
-pub loop-place-init : goal.loop-place-init
-loop-place-init c = (c.args.shift.0, omega arith, refl)
-
-pub loop-place-smaller : goal.loop-place-smaller
-loop-place-smaller c = omega (arith, c.dec-s.ensures, c.height-h.ensures)
 
 pub loop-place-preserved : goal.loop-place-preserved
 loop-place-preserved c =

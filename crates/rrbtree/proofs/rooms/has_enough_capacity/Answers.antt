@@ -1,14 +1,11 @@
 -- `rrbtree::rooms::has_enough_capacity`: what is left of the search is the whole search; it goes down only above shift 0.
-use Rattle.std.proofs.Common.{◌-◌, sym, refl, ◌∙◌, arith, eq-eqb, ne_eqb}
+use Rattle.std.proofs.Common.{◌-◌, sym, ◌∙◌, arith, eq-eqb, ne_eqb}
 use Rattle.rrbtree.specs.Rooms.{room_of, search_ends, search_down, down_above}
 use Rattle.rrbtree.proofs.rooms.has_enough_capacity.Goals as goal
 
 pub returns-then-t-eq0 : goal.returns-then-t-eq0
 unfolding room_of
 returns-then-t-eq0 c = rw (eq-eqb _ _ c.if-t-eq0.true)
-
-pub loop-r-init : goal.loop-r-init
-loop-r-init c = (c.args.t.shift.0, omega arith, refl)
 
 pub loop-r-smaller : goal.loop-r-smaller
 loop-r-smaller c =

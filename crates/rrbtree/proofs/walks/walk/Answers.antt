@@ -1,17 +1,8 @@
 -- `rrbtree::walks::walk`: what is left of the walk is the whole walk.
-use Rattle.std.proofs.Common.{◌-◌, sym, refl, ◌∙◌, arith, eqb-true}
+use Rattle.std.proofs.Common.{◌-◌, sym, ◌∙◌, arith, eqb-true}
 use borrow.Author.Tests.{eqb-false}
 use Rattle.rrbtree.specs.Walks.{walk_leaf, walk_on}
 use Rattle.rrbtree.proofs.walks.walk.Goals as goal
-
-pub loop-s-init : goal.loop-s-init
-loop-s-init c = (c.args.shift.0, omega arith, refl)
-
-pub loop-s-smaller : goal.loop-s-smaller
-loop-s-smaller c =
-    let l = c.loop-s in
-    let n = eqb-false l.s.0 0 (sym c.is_leaf_level.ensures ∙ c.if-is_leaf_level.false) in
-    omega (arith, c.dec-s.ensures)
 
 pub loop-s-preserved : goal.loop-s-preserved
 loop-s-preserved c =
