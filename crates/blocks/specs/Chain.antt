@@ -6,7 +6,11 @@ use native.Mathlib.Omega.{arith}
 use borrow.Author.Tests.{le-leb, lt-leb}
 use Rattle.blocks.specs.Words.{pick, word_of, put_of, length-put}
 use Rattle.blocks.specs.declared.State.{State}
-use Rattle.blocks.specs.declared.Got.{Got}
+
+-- a block taken off the chain, and the state after
+pub record Got : Type 0 where
+  pub block : ℕ
+  pub state : State
 
 -- the first block of the chain, and the state without it
 unfoldable pub alloc_of : List ℕ → State → Got

@@ -1,2 +1,4 @@
 pub mod Words
+pub mod Fields
 pub mod Chain
+pub mod Pools

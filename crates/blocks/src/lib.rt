@@ -1,9 +1,17 @@
 // Blocks of 66 words in a lent pool, and the chain of the free ones.
 #![tactic(auto)]
 
-ghost use Rattle.std.specs.Prelude.{◌≡◌, ◌<◌, ◌/◌, length};
+mod fields;
+mod pools;
+
+ghost use Rattle.std.specs.Prelude.{◌≡◌, ◌/◌, ◌==◌, length};
 ghost use Rattle.blocks.specs.Words.{word_of, put_of, kind_of, count_of, last_of, slot_of, size_of};
-ghost use Rattle.blocks.specs.Chain.{alloc_of, on_chain, release_of, chained_of, free_count_of};
+ghost use Rattle.blocks.specs.Fields.{place_of, kind_at};
+ghost use Rattle.blocks.specs.Chain.{chained_of, free_count_of};
+
+pub use fields::{Field, Kind};
+use levels::Slot;
+pub use pools::Pool;
 
 // The words of a block: its kind, its count, 32 children or elements, 32 sizes.
 pub const WORDS: usize = 66;
@@ -16,27 +24,12 @@ pub const SLOTS: usize = 2;
 
 pub const SIZES: usize = 34;
 
-pub const FREE: u64 = 0;
-
-pub const LEAF: u64 = 1;
-
-pub const BRANCH: u64 = 2;
-
-pub const RELAXED: u64 = 3;
-
 // The small state record: the first free block (the number of blocks where there is none), and the promised total.
 #[repr(C)]
 #[derive(Clone, Copy)]
 pub struct State {
     pub free: u64,
     pub promised: u64,
-}
-
-// A block taken off the chain, and the state after.
-#[derive(Clone, Copy)]
-pub struct Got {
-    pub block: usize,
-    pub state: State,
 }
 
 // How many blocks a pool has.
@@ -46,113 +39,79 @@ pub fn total(pool: &[u64]) -> usize
     pool.len() / WORDS
 }
 
-// Word j of block b; 0 where there is no such block.
-pub fn word(pool: &[u64], b: usize, j: usize) -> u64
-    requires { j < 66 }
-    ensures { result ≡ word_of pool.now b j }
+// A word of block b; 0 where there is no such block.
+pub fn word(pool: &[u64], b: usize, f: Field) -> u64
+    ensures { result ≡ word_of pool.now b (place_of f) }
 {
     if b < pool.len() / WORDS {
-        return pool[b * WORDS + j];
+        return pool[b * WORDS + f.place()];
     }
     0
 }
 
-// Stores word j of block b; where there is no such block nothing.
-pub fn put(pool: &mut [u64], b: usize, j: usize, x: u64)
-    requires { j < 66 }
-    ensures { pool.new ≡ put_of pool.old b j x }
+// Stores a word of block b; where there is no such block nothing.
+pub fn put(pool: &mut [u64], b: usize, f: Field, x: u64)
+    ensures { pool.new ≡ put_of pool.old b (place_of f) x }
 {
     if b < pool.len() / WORDS {
-        pool[b * WORDS + j] = x;
+        pool[b * WORDS + f.place()] = x;
     }
 }
 
-pub fn kind(pool: &[u64], b: usize) -> u64
-    ensures { result ≡ kind_of pool.now b }
+pub fn kind(pool: &[u64], b: usize) -> Kind
+    ensures { result ≡ kind_at (kind_of pool.now b) }
 {
-    word(pool, b, KIND)
+    Kind::from(word(pool, b, Field::Kind))
+}
+
+pub fn is_relaxed(pool: &[u64], b: usize) -> bool
+    ensures { result ≡ (kind_of pool.now b == 3) }
+{
+    kind(pool, b) == Kind::Relaxed
 }
 
 // The slots in use: 32 at most.
 pub fn count(pool: &[u64], b: usize) -> usize
     ensures { result ≡ count_of pool.now b }
 {
-    let n = word(pool, b, COUNT) as usize;
-    if n < 32 {
-        return n;
-    }
-    32
+    (word(pool, b, Field::Count) as usize).min(32)
 }
 
 // The last slot in use.
-pub fn last(pool: &[u64], b: usize) -> usize
-    ensures { result ≡ last_of pool.now b }
+pub fn last(pool: &[u64], b: usize) -> Slot
+    ensures { result.at ≡ last_of pool.now b }
 {
-    let n = count(pool, b);
-    if 0 < n {
-        return n - 1;
-    }
-    0
-}
-
-pub fn slot(pool: &[u64], b: usize, i: usize) -> u64
-    requires { i < 32 }
-    ensures { result ≡ slot_of pool.now b i }
-{
-    word(pool, b, SLOTS + i)
-}
-
-pub fn child(pool: &[u64], b: usize, i: usize) -> usize
-    requires { i < 32 }
-    ensures { result ≡ slot_of pool.now b i }
-{
-    word(pool, b, SLOTS + i) as usize
-}
-
-pub fn size(pool: &[u64], b: usize, i: usize) -> usize
-    requires { i < 32 }
-    ensures { result ≡ size_of pool.now b i }
-{
-    word(pool, b, SIZES + i) as usize
-}
-
-// Takes the first block off the chain.
-pub fn alloc(pool: &[u64], st: State) -> Got
-    ensures { result ≡ alloc_of pool.now st }
-{
-    let b = st.free as usize;
-    let next = State {
-        free: word(pool, b, COUNT),
-        promised: st.promised,
-    };
-    Got {
-        block: b,
-        state: next,
+    Slot {
+        at: count(pool, b).saturating_sub(1),
     }
 }
 
-// Puts block b on the chain.
-pub fn release(pool: &mut [u64], st: State, b: usize) -> State
-    ensures { (result ≡ on_chain st b) × (pool.new ≡ release_of pool.old st b) }
+pub fn slot(pool: &[u64], b: usize, i: Slot) -> u64
+    ensures { result ≡ slot_of pool.now b i.at }
 {
-    put(pool, b, KIND, FREE);
-    put(pool, b, COUNT, st.free);
-    State {
-        free: b as u64,
-        promised: st.promised,
-    }
+    word(pool, b, Field::Slot(i))
+}
+
+// The block whose number stands in a slot.
+pub fn child(pool: &[u64], b: usize, i: Slot) -> usize
+    ensures { result ≡ slot_of pool.now b i.at }
+{
+    slot(pool, b, i) as usize
+}
+
+pub fn size(pool: &[u64], b: usize, i: Slot) -> usize
+    ensures { result ≡ size_of pool.now b i.at }
+{
+    word(pool, b, Field::Size(i)) as usize
 }
 
 // Puts all blocks on the chain, in order.
 pub fn free_all(pool: &mut [u64])
     ensures { pool.new ≡ chained_of pool.old (length pool.old / 66) }
 {
-    let n = total(pool);
-    let mut b: usize = 0;
-    while b < n {
-        put(pool, b, KIND, FREE);
-        put(pool, b, COUNT, (b + 1) as u64);
-        b += 1;
+    for b in 0..total(pool) {
+        put(pool, b, Field::Kind, Kind::Free.into());
+        put(pool, b, Field::Count, (b + 1) as u64);
     }
 }
 
@@ -162,13 +121,11 @@ pub fn free_count(pool: &[u64], st: State) -> usize
 {
     let n = total(pool);
     let mut b = st.free as usize;
-    let mut k: usize = 0;
-    while k < n {
+    for k in 0..n {
         if n <= b {
-            break;
+            return k;
         }
-        b = word(pool, b, COUNT) as usize;
-        k += 1;
+        b = word(pool, b, Field::Count) as usize;
     }
-    k
+    n
 }

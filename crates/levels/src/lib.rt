@@ -1,8 +1,18 @@
 // Levels and places of a tree.
 #![tactic(auto)]
 
-ghost use Rattle.std.specs.Prelude.{◌≡◌, ◌+◌, ◌-◌, ◌*◌, ◌/◌, ◌≤◌, ◌^◌, min, eqb, ltb, leb};
+ghost use Rattle.std.specs.Prelude.{◌≡◌, ◌+◌, ◌-◌, ◌*◌, ◌/◌, ◌<◌, ◌≤◌, ◌^◌, min, eqb, ltb, leb};
 ghost use Rattle.levels.specs.Place.{child_of, element_of, room_for};
+
+// A number below N.
+#[derive(Clone, Copy)]
+pub struct Below<const N: usize> {
+    pub at: usize,
+    ghost below: { at < N },
+}
+
+// A slot of a node.
+pub type Slot = Below<32>;
 
 // A level: 0 at a leaf, and 5 more per level above.
 #[derive(Clone, Copy)]
@@ -40,10 +50,7 @@ impl Shift {
     pub fn dec(self) -> Self
         ensures { result.0 ≡ self.0 - 5 }
     {
-        if self.0 < Shift::STEP {
-            return Shift(Shift::LEAF);
-        }
-        Shift(self.0 - Shift::STEP)
+        Shift(self.0.saturating_sub(Shift::STEP))
     }
 
     pub fn is_leaf_level(self) -> bool
@@ -76,39 +83,35 @@ impl Shift {
     pub fn at(height: usize) -> Self
         ensures { result.0 ≡ min height 48 * 5 }
     {
-        if height < 48 {
-            return Shift(height as u32 * Shift::STEP);
-        }
-        Shift(240)
+        Shift(height.min(48) as u32 * Shift::STEP)
     }
 }
 
 impl Index {
     // The child slot of the place at a level.
-    pub fn child(self, shift: Shift) -> usize
-        ensures { result ≡ child_of self.0 shift.0 }
+    pub fn child(self, shift: Shift) -> Slot
+        ensures { result.at ≡ child_of self.0 shift.0 }
     {
         if shift.0 < 64 {
-            return (self.0 >> shift.0) & 31;
+            return Slot {
+                at: (self.0 >> shift.0) & 31,
+            };
         }
-        0
+        Slot { at: 0 }
     }
 
     // The slot in a leaf.
-    pub fn element(self) -> usize
-        ensures { result ≡ element_of self.0 }
+    pub fn element(self) -> Slot
+        ensures { result.at ≡ element_of self.0 }
     {
-        self.0 & 31
+        Slot { at: self.0 & 31 }
     }
 
     // The place counted from a slot that has so many elements before it.
     pub fn less(self, before: usize) -> Self
         ensures { result.0 ≡ self.0 - before }
     {
-        if before < self.0 {
-            return Index(self.0 - before);
-        }
-        Index(0)
+        Index(self.0.saturating_sub(before))
     }
 
     // Whether a dense branch at a level can have an element at the place.

@@ -1,94 +1,96 @@
 // Branches: children and size tables.
-ghost use Rattle.std.specs.Prelude.{◌≡◌, ◌<◌, ◌≤◌};
+ghost use Rattle.std.specs.Prelude.{◌≡◌, ◌≤◌};
 ghost use Rattle.blocks.specs.Chain.{alloc_of};
+ghost use Rattle.blocks.specs.Pools.{on, Leaves};
 ghost use Rattle.node.specs.Branches.{above_of, before_of, link_of, more_kid, less_kid, over_of, pair_of};
 
-use blocks::{Got, State};
-use levels::{Index, Shift};
+use blocks::{Field, Kind, Pool};
+use levels::{Index, Shift, Slot};
 
 // The first slot whose size entry exceeds the place; the last slot where there is none. No entry before the first one tried can.
-pub fn first_above(pool: &[u64], b: usize, shift: Shift, place: Index) -> usize
-    ensures { (result ≡ above_of pool.now b shift.0 place.0) × (result < 32) }
+#[tactic(auto, using(crate::specs::Branches::first_at, crate::specs::Branches::first_end), unfolding(crate::specs::Branches::above_of))]
+pub fn first_above(pool: &[u64], b: usize, shift: Shift, place: Index) -> Slot
+    ensures { result.at ≡ above_of pool.now b shift.0 place.0 }
 {
-    let at = place.0;
-    let mut i = place.child(shift);
-    while i < 31 {
-        if at < blocks::size(pool, b, i) {
-            break;
+    for at in place.child(shift).at..31 {
+        let i = Slot { at };
+        if place.0 < blocks::size(pool, b, i) {
+            return i;
         }
-        i += 1;
     }
-    i
+    Slot { at: 31 }
 }
 
 // The elements before slot i, by the size table.
+#[tactic(auto, unfolding(crate::specs::Branches::before_of))]
 pub fn before(pool: &[u64], b: usize, i: usize) -> usize
     requires { i ≤ 32 }
     ensures { result ≡ before_of pool.now b i }
 {
     if 0 < i {
-        return blocks::size(pool, b, i - 1);
+        return blocks::size(pool, b, Slot { at: i - 1 });
     }
     0
 }
 
 // Makes block k the child after the first n of branch b, with len elements.
-pub fn link(pool: &mut [u64], b: usize, n: usize, k: usize, len: usize)
-    requires { n < 32 }
-    ensures { pool.new ≡ link_of pool.old b n k len }
+#[tactic(auto, unfolding(crate::specs::Branches::link_of))]
+pub fn link(pool: &mut [u64], b: usize, n: Slot, k: usize, len: usize)
+    ensures { pool.new ≡ link_of pool.old b n.at k len }
 {
-    let kind = blocks::kind(pool, b);
-    let sum = std::num::wrapping_add_usize(before(pool, b, n), len);
-    blocks::put(pool, b, blocks::SLOTS + n, k as u64);
-    blocks::put(pool, b, blocks::COUNT, (n + 1) as u64);
-    if kind == blocks::RELAXED {
-        blocks::put(pool, b, blocks::SIZES + n, sum as u64);
+    let relaxed = blocks::is_relaxed(pool, b);
+    let sum = before(pool, b, n.at).wrapping_add(len);
+    blocks::put(pool, b, Field::Slot(n), k as u64);
+    blocks::put(pool, b, Field::Count, (n.at + 1) as u64);
+    if relaxed {
+        blocks::put(pool, b, Field::Size(n), sum as u64);
     }
 }
 
 // Child i, the last of branch b, is to have len elements more.
-pub fn more_kid(pool: &mut [u64], b: usize, i: usize, len: usize)
-    requires { i < 32 }
-    ensures { pool.new ≡ more_kid pool.old b i len }
+#[tactic(auto, unfolding(crate::specs::Branches::more_kid))]
+pub fn more_kid(pool: &mut [u64], b: usize, i: Slot, len: usize)
+    ensures { pool.new ≡ more_kid pool.old b i.at len }
 {
-    if blocks::kind(pool, b) == blocks::RELAXED {
-        let sum = std::num::wrapping_add_usize(blocks::size(pool, b, i), len);
-        blocks::put(pool, b, blocks::SIZES + i, sum as u64);
+    if blocks::is_relaxed(pool, b) {
+        let sum = blocks::size(pool, b, i).wrapping_add(len);
+        blocks::put(pool, b, Field::Size(i), sum as u64);
     }
 }
 
 // Child i, the last of the relaxed branch b, has len elements less.
-pub fn less_kid(pool: &mut [u64], b: usize, i: usize, len: usize)
-    requires { i < 32 }
-    ensures { pool.new ≡ less_kid pool.old b i len }
+#[tactic(auto, unfolding(crate::specs::Branches::less_kid))]
+pub fn less_kid(pool: &mut [u64], b: usize, i: Slot, len: usize)
+    ensures { pool.new ≡ less_kid pool.old b i.at len }
 {
-    let old = Index(blocks::size(pool, b, i));
-    let new = old.less(len);
-    blocks::put(pool, b, blocks::SIZES + i, new.0 as u64);
+    let left = blocks::size(pool, b, i).saturating_sub(len);
+    blocks::put(pool, b, Field::Size(i), left as u64);
 }
 
 // A new dense branch over block k.
-pub fn over(pool: &mut [u64], st: State, k: usize) -> Got
-    ensures { (result ≡ alloc_of pool.old st) × (pool.new ≡ over_of pool.old st.free k) }
+#[tactic(auto, unfolding(crate::specs::Branches::over_of, blocks::specs::Chain::alloc_of))]
+pub fn over(pool: &mut Pool<'_>, k: usize) -> usize
+    ensures block { result ≡ (on alloc_of pool.old).block }
+    ensures pool { Leaves pool.old pool.new (on alloc_of pool.old).state (over_of pool.old.words.now pool.old.state.free k) }
 {
-    let g = blocks::alloc(pool, st);
-    let b = g.block;
-    blocks::put(pool, b, blocks::KIND, blocks::BRANCH);
-    blocks::put(pool, b, blocks::COUNT, 1);
-    blocks::put(pool, b, blocks::SLOTS, k as u64);
-    g
+    let b = pool.alloc();
+    pool.put(b, Field::Kind, Kind::Branch.into());
+    pool.put(b, Field::Count, 1);
+    pool.put(b, Field::Slot(Slot { at: 0 }), k as u64);
+    b
 }
 
 // A new branch over block k of len elements, relaxed where k is.
-pub fn pair(pool: &mut [u64], st: State, k: usize, len: usize) -> Got
-    ensures { (result ≡ alloc_of pool.old st) × (pool.new ≡ pair_of pool.old st.free k len) }
+#[tactic(auto, unfolding(crate::specs::Branches::pair_of, blocks::specs::Chain::alloc_of))]
+pub fn pair(pool: &mut Pool<'_>, k: usize, len: usize) -> usize
+    ensures block { result ≡ (on alloc_of pool.old).block }
+    ensures pool { Leaves pool.old pool.new (on alloc_of pool.old).state (pair_of pool.old.words.now pool.old.state.free k len) }
 {
-    let kind = blocks::kind(pool, k);
-    let g = over(pool, st, k);
-    let b = g.block;
-    if kind == blocks::RELAXED {
-        blocks::put(pool, b, blocks::KIND, blocks::RELAXED);
-        blocks::put(pool, b, blocks::SIZES, len as u64);
+    let relaxed = blocks::is_relaxed(pool.words(), k);
+    let b = over(pool, k);
+    if relaxed {
+        pool.put(b, Field::Kind, Kind::Relaxed.into());
+        pool.put(b, Field::Size(Slot { at: 0 }), len as u64);
     }
-    g
+    b
 }

@@ -2,9 +2,18 @@
 ghost use Rattle.std.specs.Prelude.{◌≡◌, ◌≤◌, length, slice_set};
 ghost use Rattle.std.proofs.lemmas.List.Edits.{sets};
 ghost use Rattle.blocks.specs.Chain.{alloc_of};
+ghost use Rattle.blocks.specs.Pools.{on, Leaves};
 ghost use Rattle.node.specs.Leaves.{store_of, leaf_of, take_of};
 
-use blocks::{Got, State};
+use blocks::{Field, Kind, Pool};
+use levels::Slot;
+
+// Words for the slots of a node.
+#[derive(Clone, Copy)]
+pub struct Slots<'a> {
+    pub words: &'a [u64],
+    ghost fits: { length words.now ≤ 32 },
+}
 
 // Stores x as word i of the part; past its end nothing.
 pub fn leaf_add(part: &mut [u64], i: usize, x: u64)
@@ -20,48 +29,44 @@ pub fn leaf_merge(part: &mut [u64], n: usize, src: &[u64])
     requires { n ≤ 32 }
     ensures { part.new ≡ sets part.old n src.now }
 {
-    let mut i: usize = 0;
-    while i < src.len() {
-        leaf_add(part, n + i, src[i]);
-        i += 1;
+    for (i, x) in src.iter().enumerate() {
+        leaf_add(part, n + i, *x);
     }
 }
 
 // The first slots of block b become the words of src.
-pub fn slots_fill(pool: &mut [u64], b: usize, src: &[u64])
-    requires { length src.now ≤ 32 }
-    ensures { pool.new ≡ store_of pool.old b 2 src.now }
+#[tactic(auto, using(crate::specs::Leaves::store_in, crate::specs::Leaves::store_out, crate::specs::Leaves::part_back))]
+pub fn slots_fill(pool: &mut [u64], b: usize, src: Slots<'_>)
+    ensures { pool.new ≡ store_of pool.old b 2 src.entry.words.now }
 {
     if b < blocks::total(pool) {
         let start = b * blocks::WORDS + blocks::SLOTS;
         let end = start + 32;
-        leaf_merge(&mut pool[start..end], 0, src);
+        leaf_merge(&mut pool[start..end], 0, src.words);
     }
 }
 
 // A new leaf of the words of src.
-pub fn leaf_new(pool: &mut [u64], st: State, src: &[u64]) -> Got
-    requires { length src.now ≤ 32 }
-    ensures { (result ≡ alloc_of pool.old st) × (pool.new ≡ leaf_of pool.old st.free src.now) }
+#[tactic(auto, unfolding(crate::specs::Leaves::leaf_of, blocks::specs::Chain::alloc_of))]
+pub fn leaf_new(pool: &mut Pool<'_>, src: Slots<'_>) -> usize
+    ensures block { result ≡ (on alloc_of pool.old).block }
+    ensures pool { Leaves pool.old pool.new (on alloc_of pool.old).state (leaf_of pool.old.words.now pool.old.state.free src.entry.words.now) }
 {
-    let g = blocks::alloc(pool, st);
-    let b = g.block;
-    slots_fill(pool, b, src);
-    blocks::put(pool, b, blocks::KIND, blocks::LEAF);
-    blocks::put(pool, b, blocks::COUNT, src.len() as u64);
-    g
+    let b = pool.alloc();
+    slots_fill(&mut *pool.words, b, src);
+    pool.put(b, Field::Kind, Kind::Leaf.into());
+    pool.put(b, Field::Count, src.words.len() as u64);
+    b
 }
 
 // The elements of a leaf, and zeros after them.
+#[tactic(auto, using(crate::specs::Leaves::taken_more), unfolding(crate::specs::Leaves::take_of, crate::specs::Leaves::slots_from))]
 pub fn leaf_take(pool: &[u64], b: usize) -> [u64; 32]
     ensures { result ≡ take_of pool.now b }
 {
     let mut out = [0u64; 32];
-    let n = blocks::count(pool, b);
-    let mut i: usize = 0;
-    while i < n {
-        out[i] = blocks::slot(pool, b, i);
-        i += 1;
+    for at in 0..blocks::count(pool, b) {
+        out[at] = blocks::slot(pool, b, Slot { at });
     }
     out
 }

@@ -1,12 +1,11 @@
 -- `blocks::free_all`: after b turns the first b blocks are on the chain.
 use mathlib.Core.Path.{refl}
-use native.Mathlib.Omega.{arith}
 use Rattle.blocks.specs.Chain.{chained_of, chained_more}
 use Rattle.blocks.proofs.free_all.Goals as goal
 
 pub loop-b-init : goal.loop-b-init
 unfolding chained_of
-loop-b-init c = (omega arith, refl)
+loop-b-init c = refl
 
 pub loop-b-preserved : goal.loop-b-preserved
-loop-b-preserved c = (omega arith, cc (chained_more _ _))
+loop-b-preserved c = cc (chained_more _ _)

@@ -10,19 +10,20 @@ unfolding free_count_of
 loop-k-init c =
     let n = c.total-n.result in
     let e : n - 0 ≡ n = omega arith in
-    (omega arith, rw e (omega arith))
+    rw e (omega arith)
 
 pub loop-k-preserved : goal.loop-k-preserved
 loop-k-preserved c =
     let l = c.loop-k in
-    let n = c.total-n.result in
-    let m = chain_more c.args.pool.now n l.b l.k (omega arith) (omega arith) in
-    (omega arith, cc)
+    let m = chain_more c.args.pool.now c.total-n.result l.b l.k (omega arith) (omega arith) in
+    cc
 
-pub returns-after-loop-k : goal.returns-after-loop-k
-returns-after-loop-k c =
+pub returns : goal.returns
+returns c =
     let l = c.loop-k in
-    cc (chain_end c.args.pool.now c.total-n.result l.b l.k (omega arith))
+    let n = c.total-n.result in
+    let e : n ≡ l.k = omega arith in
+    cc (e, chain_end c.args.pool.now n l.b l.k (omega arith))
 
 pub returns-then-n-b : goal.returns-then-n-b
 returns-then-n-b c =

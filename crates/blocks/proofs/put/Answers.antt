@@ -5,7 +5,7 @@ use Rattle.blocks.proofs.put.Goals as goal
 
 pub returns-then-b-pool : goal.returns-then-b-pool
 unfolding put_of
-returns-then-b-pool c = simp (lt-ltb _ _ c.if-b-pool.true)
+returns-then-b-pool c = simp (lt-ltb _ _ c.if-b-pool.true, c.place.ensures.place)
 
 pub returns-else-b-pool : goal.returns-else-b-pool
 unfolding put_of

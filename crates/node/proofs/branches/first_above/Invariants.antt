@@ -1,10 +1,7 @@
 -- `node::branches::first_above`: what is left of the search is the whole search.
-use Rattle.std.proofs.Common.{◌≡◌, ◌-◌, ◌≤◌}
-use Rattle.node.specs.Branches.{first_from}
+use Rattle.std.proofs.Common.{◌≡◌, ◌-◌}
+use Rattle.node.specs.Branches.{above_of, first_from}
 use Rattle.node.proofs.branches.first_above.Given as goal
 
-abbrev pub invariant-loop-i : goal.invariant-loop-i
-invariant-loop-i l = (l.i ≤ 31) × (first_from l.pool l.b l.at (31 - l.initial.i) l.initial.i ≡ first_from l.pool l.b l.at (31 - l.i) l.i)
-
-abbrev pub decreases-loop-i : goal.decreases-loop-i
-decreases-loop-i l = 31 - l.i
+abbrev pub invariant-loop-at : goal.invariant-loop-at
+invariant-loop-at l = above_of l.pool l.b l.fn.shift.0 l.place.0 ≡ first_from l.pool l.b l.place.0 (31 - l.at) l.at

@@ -1,0 +1,12 @@
+-- A lent pool, as definitions on its words and its state record see it.
+use Rattle.std.specs.Prelude.{◌≡◌, ℕ, List}
+use Rattle.blocks.specs.declared.State.{State}
+use Rattle.blocks.specs.declared.pools.Pool.{Pool}
+
+-- a definition on words and state, of a pool's
+abbrev pub on : {A : Type 0} → (List ℕ → State → A) → Pool → A
+on f pool = f pool.words.now pool.state
+
+-- a call leaves a pool of the same lent words, with this state and these words in it
+abbrev pub Leaves : Pool → Pool → State → List ℕ → Type 0
+Leaves old new state words = (new.words.ghost_name ≡ old.words.ghost_name) × (new.state ≡ state) × (new.words.now ≡ words)

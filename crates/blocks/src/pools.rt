@@ -1,0 +1,51 @@
+// A lent pool with its state record: taking a block off the chain, and putting one back.
+ghost use Rattle.std.specs.Prelude.{◌≡◌};
+ghost use Rattle.blocks.specs.Words.{put_of};
+ghost use Rattle.blocks.specs.Fields.{place_of};
+ghost use Rattle.blocks.specs.Chain.{alloc_of, on_chain, release_of};
+ghost use Rattle.blocks.specs.Pools.{on, Leaves};
+
+use crate::{Field, Kind, State};
+
+// The words of a lent pool, and its state record.
+#[derive(Drop)]
+pub struct Pool<'a> {
+    pub words: &'a mut [u64],
+    pub state: State,
+}
+
+impl Pool<'_> {
+    pub fn words(&self) -> &[u64]
+        ensures { result.now ≡ self.now.words.now }
+    {
+        self.words
+    }
+
+    // Stores a word of block b.
+    pub fn put(&mut self, b: usize, f: Field, x: u64)
+        ensures { Leaves self.old self.new self.old.state (put_of self.old.words.now b (place_of f) x) }
+    {
+        crate::put(&mut *self.words, b, f, x);
+    }
+
+    // Takes the first block off the chain.
+    #[tactic(auto, unfolding(crate::specs::Chain::alloc_of))]
+    pub fn alloc(&mut self) -> usize
+        ensures block { result ≡ (on alloc_of self.old).block }
+        ensures pool { Leaves self.old self.new (on alloc_of self.old).state self.old.words.now }
+    {
+        let b = self.state.free as usize;
+        self.state.free = crate::word(self.words(), b, Field::Count);
+        b
+    }
+
+    // Puts block b on the chain.
+    #[tactic(auto, unfolding(crate::specs::Chain::release_of))]
+    pub fn release(&mut self, b: usize)
+        ensures { Leaves self.old self.new (on_chain self.old.state b) (on release_of self.old b) }
+    {
+        self.put(b, Field::Kind, Kind::Free.into());
+        self.put(b, Field::Count, self.state.free);
+        self.state.free = b as u64;
+    }
+}
