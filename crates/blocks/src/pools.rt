@@ -3,7 +3,7 @@ ghost use Rattle.std.specs.Prelude.{◌≡◌};
 ghost use Rattle.blocks.specs.Words.{put_of};
 ghost use Rattle.blocks.specs.Fields.{place_of};
 ghost use Rattle.blocks.specs.Chain.{alloc_of, on_chain, release_of};
-ghost use Rattle.blocks.specs.Pools.{on, Leaves};
+ghost use Rattle.blocks.specs.Pools.{on, Leaves, Gives};
 
 use crate::{Field, Kind, State};
 
@@ -31,8 +31,7 @@ impl Pool<'_> {
     // Takes the first block off the chain.
     #[tactic(auto, unfolding(crate::specs::Chain::alloc_of))]
     pub fn alloc(&mut self) -> usize
-        ensures block { result ≡ (on alloc_of self.old).block }
-        ensures pool { Leaves self.old self.new (on alloc_of self.old).state self.old.words.now }
+        ensures { Gives self.old self.new result (on alloc_of self.old, self.old.words.now) }
     {
         let b = self.state.free as usize;
         self.state.free = crate::word(self.words(), b, Field::Count);

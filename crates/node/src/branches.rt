@@ -1,7 +1,7 @@
 // Branches: children and size tables.
 ghost use Rattle.std.specs.Prelude.{◌≡◌, ◌≤◌};
 ghost use Rattle.blocks.specs.Chain.{alloc_of};
-ghost use Rattle.blocks.specs.Pools.{on, Leaves};
+ghost use Rattle.blocks.specs.Pools.{on, Gives};
 ghost use Rattle.node.specs.Branches.{above_of, before_of, link_of, more_kid, less_kid, over_of, pair_of};
 
 use blocks::{Field, Kind, Pool};
@@ -70,8 +70,7 @@ pub fn less_kid(pool: &mut [u64], b: usize, i: Slot, len: usize)
 // A new dense branch over block k.
 #[tactic(auto, unfolding(crate::specs::Branches::over_of, blocks::specs::Chain::alloc_of))]
 pub fn over(pool: &mut Pool<'_>, k: usize) -> usize
-    ensures block { result ≡ (on alloc_of pool.old).block }
-    ensures pool { Leaves pool.old pool.new (on alloc_of pool.old).state (over_of pool.old.words.now pool.old.state.free k) }
+    ensures { Gives pool.old pool.new result (on alloc_of pool.old, over_of pool.old.words.now pool.old.state.free k) }
 {
     let b = pool.alloc();
     pool.put(b, Field::Kind, Kind::Branch.into());
@@ -83,8 +82,7 @@ pub fn over(pool: &mut Pool<'_>, k: usize) -> usize
 // A new branch over block k of len elements, relaxed where k is.
 #[tactic(auto, unfolding(crate::specs::Branches::pair_of, blocks::specs::Chain::alloc_of))]
 pub fn pair(pool: &mut Pool<'_>, k: usize, len: usize) -> usize
-    ensures block { result ≡ (on alloc_of pool.old).block }
-    ensures pool { Leaves pool.old pool.new (on alloc_of pool.old).state (pair_of pool.old.words.now pool.old.state.free k len) }
+    ensures { Gives pool.old pool.new result (on alloc_of pool.old, pair_of pool.old.words.now pool.old.state.free k len) }
 {
     let relaxed = blocks::is_relaxed(pool.words(), k);
     let b = over(pool, k);

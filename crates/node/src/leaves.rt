@@ -2,7 +2,7 @@
 ghost use Rattle.std.specs.Prelude.{◌≡◌, ◌≤◌, length, slice_set};
 ghost use Rattle.std.proofs.lemmas.List.Edits.{sets};
 ghost use Rattle.blocks.specs.Chain.{alloc_of};
-ghost use Rattle.blocks.specs.Pools.{on, Leaves};
+ghost use Rattle.blocks.specs.Pools.{on, Gives};
 ghost use Rattle.node.specs.Leaves.{store_of, leaf_of, take_of};
 
 use blocks::{Field, Kind, Pool};
@@ -49,8 +49,7 @@ pub fn slots_fill(pool: &mut [u64], b: usize, src: Slots<'_>)
 // A new leaf of the words of src.
 #[tactic(auto, unfolding(crate::specs::Leaves::leaf_of, blocks::specs::Chain::alloc_of))]
 pub fn leaf_new(pool: &mut Pool<'_>, src: Slots<'_>) -> usize
-    ensures block { result ≡ (on alloc_of pool.old).block }
-    ensures pool { Leaves pool.old pool.new (on alloc_of pool.old).state (leaf_of pool.old.words.now pool.old.state.free src.entry.words.now) }
+    ensures { Gives pool.old pool.new result (on alloc_of pool.old, leaf_of pool.old.words.now pool.old.state.free src.entry.words.now) }
 {
     let b = pool.alloc();
     slots_fill(&mut *pool.words, b, src);

@@ -2,9 +2,8 @@
 use Rattle.std.specs.Prelude.{◌≡◌, ℕ, zero, suc, ◌+◌, ◌-◌, ◌/◌, ◌<◌, List, length, nat_lt, refl}
 use Rattle.std.proofs.Common.{add-one, arith}
 use Rattle.blocks.specs.Words.{pick, count_of, last_of, slot_of}
-use Rattle.blocks.specs.Chain.{alloc_of}
+use Rattle.blocks.specs.Chain.{Got, alloc_of}
 use Rattle.blocks.specs.declared.State.{State}
-use Rattle.blocks.specs.declared.Got.{Got}
 use Rattle.node.specs.Leaves.{leaf_of}
 use Rattle.node.specs.Branches.{link_of, more_kid, over_of, pair_of}
 use Rattle.rrbtree.specs.declared.Tree.{Tree}

@@ -7,8 +7,17 @@ use Rattle.levels.specs.Place.{child_of, element_of}
 use Rattle.blocks.specs.Words.{pick, kind_of, slot_of}
 use Rattle.node.specs.Branches.{above_of, before_of}
 use Rattle.rrbtree.specs.declared.Tree.{Tree}
-use Rattle.rrbtree.specs.declared.walks.Down.{Down}
-use Rattle.rrbtree.specs.declared.walks.Found.{Found}
+use Rattle.levels.specs.declared.Index.{Index}
+
+-- a child's block, and the place in it
+pub record Down : Type 0 where
+  pub block : ℕ
+  pub place : Index
+
+-- a leaf's block, and the slot in it
+pub record Found : Type 0 where
+  pub block : ℕ
+  pub slot : ℕ
 
 -- "In a `Branch` the child slot is place div 2^shift, mod 32. In a `RelaxedBranch` it is the first slot whose size entry
 -- exceeds the place; the entry before it is then subtracted."

@@ -1,15 +1,15 @@
 // Leaf pop: node pop, dense pop and relaxed pop call each other while the shift falls.
-ghost use Rattle.std.specs.Prelude.{◌≡◌, ◌-◌, ◌/◌, ◌<◌, ◌≤◌, true, false};
-ghost use Rattle.rrbtree.specs.Pops.{take_leaf, drop_kid, keep_kid, branch_pop, node_pop, pop_of};
+ghost use Rattle.std.specs.Prelude.{◌≡◌, ◌-◌, ◌/◌, ◌≤◌, true, false};
+ghost use Rattle.blocks.specs.Pools.{on};
+ghost use Rattle.rrbtree.specs.Pops.{popped, Takes, take_leaf, drop_kid, branch_pop, node_pop, pop_of};
 
 use crate::Tree;
-use blocks::State;
-use levels::Shift;
+use blocks::{Field, Pool};
+use levels::{Shift, Slot};
 
 // The leaf that goes, still in its block, and its length; how many children its node is left with; the branches that were released.
 #[derive(Clone, Copy)]
 pub struct Taken {
-    pub state: State,
     pub leaf: usize,
     pub len: usize,
     pub left: usize,
@@ -17,109 +17,96 @@ pub struct Taken {
 }
 
 // The last child of branch b, a leaf, goes.
-fn take_leaf(pool: &mut [u64], st: State, b: usize) -> Taken
-    ensures { (result ≡ (take_leaf pool.old st b).0) × (pool.new ≡ (take_leaf pool.old st b).1) }
+#[tactic(auto, unfolding(crate::specs::Pops::take_leaf))]
+fn take_leaf(pool: &mut Pool<'_>, b: usize) -> Taken
+    ensures { Takes pool.old pool.new result (on take_leaf pool.old b) }
 {
-    let i = blocks::last(pool, b);
-    let leaf = blocks::child(pool, b, i);
-    let len = blocks::count(pool, leaf);
-    blocks::put(pool, b, blocks::COUNT, i as u64);
+    let i = blocks::last(pool.words(), b);
+    let leaf = blocks::child(pool.words(), b, i);
+    let len = blocks::count(pool.words(), leaf);
+    pool.put(b, Field::Count, i.at as u64);
     Taken {
-        state: st,
-        leaf: leaf,
-        len: len,
-        left: i,
+        leaf,
+        len,
+        left: i.at,
         freed: 0,
     }
 }
 
 // Block kid, child i and the last of branch b, is emptied and goes too.
-fn drop_kid(pool: &mut [u64], t: Taken, b: usize, i: usize, kid: usize) -> Taken
-    ensures { (result ≡ (drop_kid pool.old t b i kid).0) × (pool.new ≡ (drop_kid pool.old t b i kid).1) }
+#[tactic(auto, unfolding(crate::specs::Pops::drop_kid))]
+fn drop_kid(pool: &mut Pool<'_>, t: Taken, b: usize, i: Slot, kid: usize) -> Taken
+    ensures { Takes pool.old pool.new result (drop_kid pool.old.words.now (popped t pool.old.state) b i.at kid) }
 {
-    let st = t.state;
-    let next = blocks::release(pool, st, kid);
-    blocks::put(pool, b, blocks::COUNT, i as u64);
+    pool.release(kid);
+    pool.put(b, Field::Count, i.at as u64);
     Taken {
-        state: next,
-        leaf: t.leaf,
-        len: t.len,
-        left: i,
-        freed: std::num::wrapping_add_usize(t.freed, 1),
+        left: i.at,
+        freed: t.freed.wrapping_add(1),
+        ..t
     }
 }
 
-// Child i, the last, has less.
-fn keep_kid(t: Taken, i: usize) -> Taken
-    requires { i < 32 }
-    ensures { result ≡ keep_kid t i }
-{
-    let st = t.state;
-    Taken {
-        state: st,
-        leaf: t.leaf,
-        len: t.len,
-        left: i + 1,
-        freed: t.freed,
-    }
-}
-
+// A branch whose size table, if it has one, is still to be brought up to date.
 #[cycle(leaf_pop)]
-fn dense_pop(pool: &mut [u64], st: State, b: usize, shift: Shift) -> Taken
+#[tactic(auto, unfolding(crate::specs::Pops::branch_pop, crate::specs::Pops::after_kid, crate::specs::Pops::keep_kid))]
+fn dense_pop(pool: &mut Pool<'_>, b: usize, shift: Shift) -> Taken
     requires { 5 ≤ shift.0 }
-    ensures { (result ≡ (branch_pop false ((shift.0 - 5) / 5) pool.old st b).0) × (pool.new ≡ (branch_pop false ((shift.0 - 5) / 5) pool.old st b).1) }
+    ensures { Takes pool.old pool.new result (on (branch_pop false ((shift.0 - 5) / 5)) pool.old b) }
 {
-    let i = blocks::last(pool, b);
-    let kid = blocks::child(pool, b, i);
-    let t = node_pop(pool, st, kid, shift.dec());
+    let i = blocks::last(pool.words(), b);
+    let kid = blocks::child(pool.words(), b, i);
+    let t = node_pop(pool, kid, shift.dec());
     if t.left == 0 {
         return drop_kid(pool, t, b, i, kid);
     }
-    keep_kid(t, i)
-}
-
-#[cycle(leaf_pop)]
-fn relaxed_pop(pool: &mut [u64], st: State, b: usize, shift: Shift) -> Taken
-    requires { 5 ≤ shift.0 }
-    ensures { (result ≡ (branch_pop true ((shift.0 - 5) / 5) pool.old st b).0) × (pool.new ≡ (branch_pop true ((shift.0 - 5) / 5) pool.old st b).1) }
-{
-    let i = blocks::last(pool, b);
-    let kid = blocks::child(pool, b, i);
-    let t = node_pop(pool, st, kid, shift.dec());
-    if t.left == 0 {
-        return drop_kid(pool, t, b, i, kid);
+    Taken {
+        left: i.at + 1,
+        ..t
     }
-    node::less_kid(pool, b, i, t.len);
-    keep_kid(t, i)
+}
+
+// As a dense branch; then the entry of its last child, if that is still there, falls.
+#[cycle(leaf_pop)]
+#[tactic(auto, unfolding(crate::specs::Pops::branch_pop, crate::specs::Pops::after_kid, crate::specs::Pops::keep_kid, crate::specs::Pops::drop_kid))]
+fn relaxed_pop(pool: &mut Pool<'_>, b: usize, shift: Shift) -> Taken
+    requires { 5 ≤ shift.0 }
+    ensures { Takes pool.old pool.new result (on (branch_pop true ((shift.0 - 5) / 5)) pool.old b) }
+{
+    let i = blocks::last(pool.words(), b);
+    let t = dense_pop(pool, b, shift);
+    if i.at < t.left {
+        node::less_kid(&mut *pool.words, b, i, t.len);
+    }
+    t
 }
 
 #[cycle(leaf_pop)]
-fn node_pop(pool: &mut [u64], st: State, b: usize, shift: Shift) -> Taken
-    ensures { (result ≡ (node_pop (shift.0 / 5) pool.old st b).0) × (pool.new ≡ (node_pop (shift.0 / 5) pool.old st b).1) }
+#[tactic(auto, using(crate::specs::Pops::pop_low, crate::specs::Pops::pop_high))]
+fn node_pop(pool: &mut Pool<'_>, b: usize, shift: Shift) -> Taken
+    ensures { Takes pool.old pool.new result (on (node_pop (shift.0 / 5)) pool.old b) }
 {
     if shift.height() < 2 {
-        return take_leaf(pool, st, b);
+        return take_leaf(pool, b);
     }
-    if blocks::kind(pool, b) == blocks::RELAXED {
-        return relaxed_pop(pool, st, b, shift);
+    if blocks::is_relaxed(pool.words(), b) {
+        return relaxed_pop(pool, b, shift);
     }
-    dense_pop(pool, st, b, shift)
+    dense_pop(pool, b, shift)
 }
 
 // Takes the last leaf off a tree; a root left with one child is still there.
-pub fn pop_leaf(pool: &mut [u64], st: State, t: Tree) -> Taken
-    ensures { (result ≡ (pop_of pool.old st t).0) × (pool.new ≡ (pop_of pool.old st t).1) }
+#[tactic(auto, unfolding(crate::specs::Pops::pop_of))]
+pub fn pop_leaf(pool: &mut Pool<'_>, t: Tree) -> Taken
+    ensures { Takes pool.old pool.new result (on pop_of pool.old t) }
 {
-    let root = t.root;
-    let shift = t.shift;
-    if shift.is_leaf_level() {
+    if t.shift.is_leaf_level() {
         return Taken {
-            state: st,
-            leaf: root,
-            len: blocks::count(pool, root),
+            leaf: t.root,
+            len: blocks::count(pool.words(), t.root),
             left: 0,
             freed: 0,
         };
     }
-    node_pop(pool, st, root, shift)
+    node_pop(pool, t.root, t.shift)
 }

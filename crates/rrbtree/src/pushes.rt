@@ -1,102 +1,87 @@
 // Leaf push: a new path below the branch that has room, and the sizes on the way to it.
-ghost use Rattle.std.specs.Prelude.{◌≡◌, ◌≤◌, length};
+ghost use Rattle.std.specs.Prelude.{◌≡◌, ◌≤◌};
+ghost use Rattle.blocks.specs.Pools.{on, Leaves, Gives};
 ghost use Rattle.rrbtree.specs.Pushes.{path_of, add_path, go_last, push_at, push_above, push_of, shift_after};
 
 use crate::{Room, Tree};
-use blocks::{Got, State};
-use levels::{Index, Shift};
+use blocks::Pool;
+use levels::{Shift, Slot};
+use node::Slots;
 
 // A new leaf of the words of src under so many new dense branches.
-fn new_path(pool: &mut [u64], st: State, height: usize, src: &[u64]) -> Got
-    requires { length src.now ≤ 32 }
-    ensures { (result ≡ (path_of height pool.old st src.now).0) × (pool.new ≡ (path_of height pool.old st src.now).1) }
+#[tactic(auto, using(crate::specs::Pushes::risen_more), unfolding(crate::specs::Pushes::path_of, crate::specs::Pushes::risen_of))]
+fn new_path(pool: &mut Pool<'_>, height: usize, src: Slots<'_>) -> usize
+    ensures { Gives pool.old pool.new result (on (path_of height) pool.old src.entry.words.now) }
 {
-    let mut g = node::leaf_new(pool, st, src);
-    let mut h: usize = 0;
-    while h < height {
-        g = node::over(pool, g.state, g.block);
-        h += 1;
+    let mut b = node::leaf_new(pool, src);
+    for _ in 0..height {
+        b = node::over(pool, b);
     }
-    g
+    b
 }
 
 // A new path as the last child of branch b.
-fn add_path(pool: &mut [u64], st: State, b: usize, height: usize, src: &[u64]) -> State
-    requires { length src.now ≤ 32 }
-    ensures { (result ≡ (add_path height pool.old st b src.now).0) × (pool.new ≡ (add_path height pool.old st b src.now).1) }
+#[tactic(auto, unfolding(crate::specs::Pushes::add_path))]
+fn add_path(pool: &mut Pool<'_>, b: usize, height: usize, src: Slots<'_>)
+    ensures { Leaves pool.old pool.new (on (add_path height) pool.old b src.entry.words.now).0 (on (add_path height) pool.old b src.entry.words.now).1 }
 {
-    let n = blocks::count(pool, b);
-    let g = new_path(pool, st, height, src);
+    let n = blocks::count(pool.words(), b);
+    let k = new_path(pool, height, src);
     if n < 32 {
-        node::link(pool, b, n, g.block, src.len());
-        return g.state;
+        node::link(&mut *pool.words, b, Slot { at: n }, k, src.words.len());
     }
-    g.state
 }
 
 // The block so many last children down; each of those is to have len elements more.
+#[tactic(auto, using(crate::specs::Pushes::last_more), unfolding(crate::specs::Pushes::go_last))]
 fn go_last(pool: &mut [u64], b: usize, depth: usize, len: usize) -> usize
     ensures { (result ≡ (go_last depth pool.old b len).0) × (pool.new ≡ (go_last depth pool.old b len).1) }
 {
     let mut at = b;
-    let mut d = depth;
-    while 0 < d {
+    for _ in 0..depth {
         let i = blocks::last(pool, at);
         let next = blocks::child(pool, at, i);
         node::more_kid(pool, at, i, len);
         at = next;
-        d -= 1;
     }
     at
 }
 
 // Below a branch so many levels up: the root stays.
-fn push_at(pool: &mut [u64], st: State, t: Tree, level: usize, src: &[u64]) -> Got
-    requires { length src.now ≤ 32 }
-    ensures { (result ≡ (push_at pool.old st t level src.now).0) × (pool.new ≡ (push_at pool.old st t level src.now).1) }
+#[tactic(auto, unfolding(crate::specs::Pushes::push_at))]
+fn push_at(pool: &mut Pool<'_>, t: Tree, level: usize, src: Slots<'_>) -> usize
+    ensures { Gives pool.old pool.new result (on push_at pool.old t level src.entry.words.now) }
 {
-    let root = t.root;
-    let shift = t.shift;
-    let top = Index(shift.height());
-    let depth = top.less(level);
-    let here = Index(level);
-    let below = here.less(1);
-    let b = go_last(pool, root, depth.0, src.len());
-    let next = add_path(pool, st, b, below.0, src);
-    Got {
-        block: root,
-        state: next,
-    }
+    let depth = t.shift.height().saturating_sub(level);
+    let b = go_last(&mut *pool.words, t.root, depth, src.words.len());
+    add_path(pool, b, level.saturating_sub(1), src);
+    t.root
 }
 
 // A new root over the old one, and a new path beside it.
-fn push_above(pool: &mut [u64], st: State, t: Tree, src: &[u64]) -> Got
-    requires { length src.now ≤ 32 }
-    ensures { (result ≡ (push_above pool.old st t src.now).0) × (pool.new ≡ (push_above pool.old st t src.now).1) }
+#[tactic(auto, unfolding(crate::specs::Pushes::push_above, blocks::specs::Chain::alloc_of))]
+fn push_above(pool: &mut Pool<'_>, t: Tree, src: Slots<'_>) -> usize
+    ensures { Gives pool.old pool.new result (on push_above pool.old t src.entry.words.now) }
 {
-    let shift = t.shift;
-    let g = node::pair(pool, st, t.root, t.len);
-    let b = g.block;
-    let next = add_path(pool, g.state, b, shift.height(), src);
-    Got {
-        block: b,
-        state: next,
-    }
+    let b = node::pair(pool, t.root, t.len);
+    add_path(pool, b, t.shift.height(), src);
+    b
 }
 
-// Pushes a leaf of the words of src where the search said: the root, and the state after.
-pub fn push_leaf(pool: &mut [u64], st: State, t: Tree, r: Room, src: &[u64]) -> Got
-    requires { length src.now ≤ 32 }
-    ensures { (result ≡ (push_of pool.old st t src.now r).0) × (pool.new ≡ (push_of pool.old st t src.now r).1) }
+// Pushes a leaf of the words of src where the search said. The root after that.
+#[tactic(auto, unfolding(crate::specs::Pushes::push_of))]
+pub fn push_leaf(pool: &mut Pool<'_>, t: Tree, r: Room, src: Slots<'_>) -> usize
+    ensures { Gives pool.old pool.new result (on push_of pool.old t src.entry.words.now r) }
 {
     match r {
-        Room::Root => node::leaf_new(pool, st, src),
-        Room::At(level) => push_at(pool, st, t, level, src),
-        Room::Above => push_above(pool, st, t, src),
+        Room::Root => node::leaf_new(pool, src),
+        Room::At(level) => push_at(pool, t, level, src),
+        Room::Above => push_above(pool, t, src),
     }
 }
 
 // The level of the root after such a push.
+#[tactic(auto, unfolding(crate::specs::Pushes::shift_after))]
 pub fn shift_after(r: Room, shift: Shift) -> Shift
     requires { shift.0 ≤ 235 }
     ensures { result.0 ≡ shift_after shift.0 r }

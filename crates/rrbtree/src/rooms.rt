@@ -3,7 +3,9 @@ ghost use Rattle.std.specs.Prelude.{◌≡◌, ◌/◌};
 ghost use Rattle.rrbtree.specs.Rooms.{sibling_of, dense_room, relaxed_room, look_of, room_of, needs_of};
 
 use crate::Tree;
+use crate::walks::Cursor;
 use levels::{Index, Shift};
+use std::ops::ControlFlow;
 
 // Where a pushed leaf goes: it is the root; below a branch so many levels up; below a new root.
 #[derive(Clone, Copy)]
@@ -13,104 +15,118 @@ pub enum Room {
     Above,
 }
 
-// What one node on the way down says: where the leaf goes, or on to a child, with the length below it and the deepest level so far that may take a sibling (0: none).
+// The search at a node: the place is the length below it; the deepest level so far that may take a sibling.
 #[derive(Clone, Copy)]
-pub enum Look {
-    Ends(Room),
-    Down(usize, Index, usize),
+pub struct Search {
+    pub at: Cursor,
+    pub level: Option<usize>,
 }
 
 // The deepest relaxed level with a free slot, or else a new root.
-fn sibling(level: usize) -> Room
+#[tactic(auto, unfolding(crate::specs::Rooms::sibling_of))]
+fn sibling(level: Option<usize>) -> Room
     ensures { result ≡ sibling_of level }
 {
-    if level == 0 {
-        return Room::Above;
-    }
-    Room::At(level)
+    level.map_or(Room::Above, Room::At)
 }
 
-// The level of the dense branch that gets a new child, where place is the length below it.
-fn dense_room(pool: &[u64], b: usize, shift: Shift, place: Index) -> usize
-    ensures { result ≡ dense_room shift.0 pool.now b shift.0 place.0 }
+// The level of the dense branch that gets a new child.
+#[tactic(auto, using(crate::specs::Rooms::dense_low, crate::specs::Rooms::dense_on))]
+fn dense_room(pool: &[u64], from: Cursor) -> usize
+    ensures { result ≡ dense_room from.shift.0 pool.now from.block from.shift.0 from.place.0 }
 {
-    let mut at = b;
-    let mut s = shift;
+    let mut at = from;
     loop {
-        let h = s.height();
-        if h < 2 {
+        let h = at.shift.height();
+        if h < 2 || at.place.child(at.shift).at == blocks::count(pool, at.block) {
             break h;
         }
-        if place.child(s) == blocks::count(pool, at) {
-            break h;
-        }
-        at = blocks::child(pool, at, blocks::last(pool, at));
-        s = s.dec();
+        at.block = blocks::child(pool, at.block, blocks::last(pool, at.block));
+        at.shift = at.shift.dec();
     }
 }
 
-// A relaxed branch above shift 5 sends the search on to its last child.
-#[tactic(auto, unfolding(crate::specs::Rooms::relaxed_room))]
-fn relaxed_room(pool: &[u64], b: usize, shift: Shift, place: Index, level: usize) -> Look
-    ensures { result ≡ relaxed_room pool.now b shift.0 place.0 level }
-{
-    let i = blocks::last(pool, b);
-    let rest = place.less(node::before(pool, b, i));
-    let next = blocks::child(pool, b, i);
-    if i < 31 {
-        return Look::Down(next, rest, shift.height());
-    }
-    Look::Down(next, rest, level)
-}
-
-fn look_at(pool: &[u64], b: usize, shift: Shift, place: Index, level: usize) -> Look
-    ensures { result ≡ look_of pool.now b shift.0 place.0 level }
-{
-    if shift.is_leaf_level() {
-        return Look::Ends(sibling(level));
-    }
-    if shift.is_level_with_leaves() {
-        if blocks::count(pool, b) < 32 {
-            return Look::Ends(Room::At(1));
+impl Search {
+    // A relaxed branch above shift 5 sends the search on to its last child.
+    #[tactic(auto, unfolding(crate::specs::Rooms::relaxed_room))]
+    fn relaxed_room(self, pool: &[u64]) -> Self
+        ensures { result ≡ relaxed_room pool.now self.at.block self.at.shift.0 self.at.place.0 self.level }
+    {
+        let Cursor {
+            block,
+            shift,
+            place,
+        } = self.at;
+        let i = blocks::last(pool, block);
+        let kid = Cursor {
+            block: blocks::child(pool, block, i),
+            shift: shift.dec(),
+            place: place.less(node::before(pool, block, i.at)),
+        };
+        if i.at < 31 {
+            return Search {
+                at: kid,
+                level: Some(shift.height()),
+            };
         }
-        return Look::Ends(sibling(level));
+        Search { at: kid, ..self }
     }
-    if blocks::kind(pool, b) == blocks::RELAXED {
-        return relaxed_room(pool, b, shift, place, level);
+
+    // What one node on the way down says: where the leaf goes, or on to a child.
+    #[tactic(auto, unfolding(crate::specs::Rooms::look_of))]
+    fn look(self, pool: &[u64]) -> ControlFlow<Room, Self>
+        ensures { result ≡ look_of pool.now self.at.block self.at.shift.0 self.at.place.0 self.level }
+    {
+        let Cursor {
+            block,
+            shift,
+            place,
+        } = self.at;
+        if shift.is_leaf_level() {
+            return ControlFlow::Break(sibling(self.level));
+        }
+        if shift.is_level_with_leaves() {
+            if blocks::count(pool, block) < 32 {
+                return ControlFlow::Break(Room::At(1));
+            }
+            return ControlFlow::Break(sibling(self.level));
+        }
+        if blocks::is_relaxed(pool, block) {
+            return ControlFlow::Continue(self.relaxed_room(pool));
+        }
+        if place.has_room(shift) {
+            return ControlFlow::Break(Room::At(dense_room(pool, self.at)));
+        }
+        ControlFlow::Break(sibling(self.level))
     }
-    if place.has_room(shift) {
-        return Look::Ends(Room::At(dense_room(pool, b, shift, place)));
-    }
-    Look::Ends(sibling(level))
 }
 
 // Where the next leaf of a tree goes.
+#[tactic(auto, using(crate::specs::Rooms::search_ends, crate::specs::Rooms::search_down, crate::specs::Rooms::down_above, crate::specs::Rooms::look_shift), unfolding(crate::specs::Rooms::room_of))]
 pub fn has_enough_capacity(pool: &[u64], t: Tree) -> Room
     ensures { result ≡ room_of pool.now t }
 {
     if t.len == 0 {
         return Room::Root;
     }
-    let mut b = t.root;
-    let mut s = t.shift;
-    let mut p = Index(t.len);
-    let mut level: usize = 0;
+    let mut search = Search {
+        at: Cursor::new(t, Index(t.len)),
+        level: None,
+    };
     loop {
-        match look_at(pool, b, s, p, level) {
-            Look::Ends(r) => {
-                break r;
+        match search.look(pool) {
+            ControlFlow::Break(room) => {
+                break room;
             }
-            Look::Down(next, q, l) => {
-                b = next;
-                p = q;
-                level = l;
-                s = s.dec();
+            ControlFlow::Continue(next) => {
+                search = next;
             }
         }
     }
 }
 
 // The blocks that a leaf push takes.
+#[tactic(auto, unfolding(crate::specs::Rooms::needs_of))]
 pub fn needs(r: Room, shift: Shift) -> usize
     ensures { result ≡ needs_of r shift.0 }
 {

@@ -1,15 +1,17 @@
 // The walk down to the leaf that holds a place.
-ghost use Rattle.std.specs.Prelude.{◌≡◌, ◌+◌, ◌<◌};
+ghost use Rattle.std.specs.Prelude.{◌≡◌, ◌+◌, ◌-◌};
 ghost use Rattle.blocks.specs.Words.{slot_of, put_of};
 ghost use Rattle.rrbtree.specs.Walks.{down_of, walk_of, found_of};
 
 use crate::Tree;
-use levels::{Index, Shift};
+use blocks::Field;
+use levels::{Index, Shift, Slot};
 
-// A child's block, and the place in it.
+// Where a walk is: a node's block and level, and the place below the node.
 #[derive(Clone, Copy)]
-pub struct Down {
+pub struct Cursor {
     pub block: usize,
+    pub shift: Shift,
     pub place: Index,
 }
 
@@ -17,60 +19,83 @@ pub struct Down {
 #[derive(Clone, Copy)]
 pub struct Found {
     pub block: usize,
-    pub slot: usize,
+    pub slot: Slot,
 }
 
-// One level down from the branch in block b at a level.
-fn go_down(pool: &[u64], b: usize, shift: Shift, place: Index) -> Down
-    ensures { result ≡ down_of pool.now b shift.0 place.0 }
-{
-    if blocks::kind(pool, b) == blocks::RELAXED {
-        let i = node::first_above(pool, b, shift, place);
-        let less = node::before(pool, b, i);
-        return Down {
-            block: blocks::child(pool, b, i),
-            place: place.less(less),
-        };
+impl Cursor {
+    // From the root of a tree.
+    pub fn new(t: Tree, place: Index) -> Self
+        ensures { result ≡ record { block = t.root; shift = t.shift; place = place } }
+    {
+        Cursor {
+            block: t.root,
+            shift: t.shift,
+            place,
+        }
     }
-    Down {
-        block: blocks::child(pool, b, place.child(shift)),
-        place: place,
-    }
-}
 
-// The walk ends at the leaf that it finds.
-fn walk(pool: &[u64], root: usize, shift: Shift, place: Index) -> Found
-    ensures { (result ≡ walk_of shift.0 pool.now root shift.0 place.0) × (result.slot < 32) }
-{
-    let mut b = root;
-    let mut s = shift;
-    let mut p = place;
-    loop {
-        if s.is_leaf_level() {
-            break Found {
-                block: b,
-                slot: p.element(),
+    // One level down.
+    #[tactic(auto, unfolding(crate::specs::Walks::down_of))]
+    fn down(self, pool: &[u64]) -> Self
+        ensures block { result.block ≡ (down_of pool.now self.block self.shift.0 self.place.0).block }
+        ensures place { result.place ≡ (down_of pool.now self.block self.shift.0 self.place.0).place }
+        ensures shift { result.shift.0 ≡ self.shift.0 - 5 }
+    {
+        let Cursor {
+            block,
+            shift,
+            place,
+        } = self;
+        let below = shift.dec();
+        if blocks::is_relaxed(pool, block) {
+            let i = node::first_above(pool, block, shift, place);
+            let before = node::before(pool, block, i.at);
+            return Cursor {
+                block: blocks::child(pool, block, i),
+                shift: below,
+                place: place.less(before),
             };
         }
-        let d = go_down(pool, b, s, p);
-        b = d.block;
-        p = d.place;
-        s = s.dec();
+        Cursor {
+            block: blocks::child(pool, block, place.child(shift)),
+            shift: below,
+            place,
+        }
+    }
+
+    // The walk ends at the leaf that it finds.
+    #[tactic(auto, using(crate::specs::Walks::walk_leaf, crate::specs::Walks::walk_on))]
+    fn walk(self, pool: &[u64]) -> Found
+        ensures block { result.block ≡ (walk_of self.shift.0 pool.now self.block self.shift.0 self.place.0).block }
+        ensures slot { result.slot.at ≡ (walk_of self.shift.0 pool.now self.block self.shift.0 self.place.0).slot }
+    {
+        let mut at = self;
+        loop {
+            if at.shift.is_leaf_level() {
+                break Found {
+                    block: at.block,
+                    slot: at.place.element(),
+                };
+            }
+            at = at.down(pool);
+        }
     }
 }
 
 // The element at a place.
+#[tactic(auto, unfolding(crate::specs::Walks::found_of))]
 pub fn get(pool: &[u64], t: Tree, place: Index) -> u64
     ensures { result ≡ slot_of pool.now (found_of pool.now t place.0).block (found_of pool.now t place.0).slot }
 {
-    let f = walk(pool, t.root, t.shift, place);
+    let f = Cursor::new(t, place).walk(pool);
     blocks::slot(pool, f.block, f.slot)
 }
 
 // Stores x at a place.
+#[tactic(auto, unfolding(crate::specs::Walks::found_of))]
 pub fn set(pool: &mut [u64], t: Tree, place: Index, x: u64)
     ensures { pool.new ≡ put_of pool.old (found_of pool.old t place.0).block (2 + (found_of pool.old t place.0).slot) x }
 {
-    let f = walk(pool, t.root, t.shift, place);
-    blocks::put(pool, f.block, blocks::SLOTS + f.slot, x);
+    let f = Cursor::new(t, place).walk(pool);
+    blocks::put(pool, f.block, Field::Slot(f.slot), x);
 }
