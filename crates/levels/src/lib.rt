@@ -14,6 +14,18 @@ pub struct Below<const N: usize> {
 // A slot of a node.
 pub type Slot = Below<32>;
 
+// A number of slots of a node.
+pub type Count = Below<33>;
+
+impl Slot {
+    // How many slots stand before it.
+    pub fn before(self) -> Count
+        ensures { result.at ≡ self.at }
+    {
+        Count { at: self.at }
+    }
+}
+
 // A level: 0 at a leaf, and 5 more per level above.
 #[derive(Clone, Copy)]
 pub struct Shift(pub u32);

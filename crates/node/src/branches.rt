@@ -1,11 +1,11 @@
 // Branches: children and size tables.
-ghost use Rattle.std.specs.Prelude.{◌≡◌, ◌≤◌};
+ghost use Rattle.std.specs.Prelude.{◌≡◌};
 ghost use Rattle.blocks.specs.Chain.{alloc_of};
 ghost use Rattle.blocks.specs.Pools.{on, Gives};
 ghost use Rattle.node.specs.Branches.{above_of, before_of, link_of, more_kid, less_kid, over_of, pair_of};
 
 use blocks::{Field, Kind, Pool};
-use levels::{Index, Shift, Slot};
+use levels::{Count, Index, Shift, Slot};
 
 // The first slot whose size entry exceeds the place; the last slot where there is none. No entry before the first one tried can.
 #[tactic(auto, using(crate::specs::Branches::first_at, crate::specs::Branches::first_end), unfolding(crate::specs::Branches::above_of))]
@@ -23,12 +23,11 @@ pub fn first_above(pool: &[u64], b: usize, shift: Shift, place: Index) -> Slot
 
 // The elements before slot i, by the size table.
 #[tactic(auto, unfolding(crate::specs::Branches::before_of))]
-pub fn before(pool: &[u64], b: usize, i: usize) -> usize
-    requires { i ≤ 32 }
-    ensures { result ≡ before_of pool.now b i }
+pub fn before(pool: &[u64], b: usize, i: Count) -> usize
+    ensures { result ≡ before_of pool.now b i.at }
 {
-    if 0 < i {
-        return blocks::size(pool, b, Slot { at: i - 1 });
+    if 0 < i.at {
+        return blocks::size(pool, b, Slot { at: i.at - 1 });
     }
     0
 }
@@ -39,7 +38,7 @@ pub fn link(pool: &mut [u64], b: usize, n: Slot, k: usize, len: usize)
     ensures { pool.new ≡ link_of pool.old b n.at k len }
 {
     let relaxed = blocks::is_relaxed(pool, b);
-    let sum = before(pool, b, n.at).wrapping_add(len);
+    let sum = before(pool, b, n.before()).wrapping_add(len);
     blocks::put(pool, b, Field::Slot(n), k as u64);
     blocks::put(pool, b, Field::Count, (n.at + 1) as u64);
     if relaxed {

@@ -3,7 +3,7 @@ ghost use Rattle.std.specs.Prelude.{◌≡◌, ◌<◌, ◌≤◌};
 ghost use Rattle.node.specs.Builds.{dense_part, sub_trie, thin_of, any_thin, sizes_of, built_of};
 
 use blocks::{Field, Kind};
-use levels::{Shift, Slot};
+use levels::{Count, Shift, Slot};
 
 // The elements below i full children of a dense branch at a level, as a word.
 #[tactic(auto, using(crate::specs::Builds::dense_past), unfolding(crate::specs::Builds::dense_part))]
@@ -48,11 +48,10 @@ fn is_thin(pool: &[u64], b: usize) -> bool
 
 // Whether one of the first n children of b makes it relaxed.
 #[tactic(auto, using(crate::specs::Builds::any_at, crate::specs::Builds::any_end))]
-fn any_thin(pool: &[u64], b: usize, n: usize) -> bool
-    requires { n ≤ 32 }
-    ensures { result ≡ any_thin pool.now b n 0 }
+fn any_thin(pool: &[u64], b: usize, n: Count) -> bool
+    ensures { result ≡ any_thin pool.now b n.at 0 }
 {
-    for at in 0..n {
+    for at in 0..n.at {
         if is_thin(pool, blocks::child(pool, b, Slot { at })) {
             return true;
         }
@@ -62,12 +61,11 @@ fn any_thin(pool: &[u64], b: usize, n: usize) -> bool
 
 // The size table of b over n children at a level.
 #[tactic(auto, using(crate::specs::Builds::sizes_at, crate::specs::Builds::sizes_end))]
-fn compute_sizes(pool: &mut [u64], b: usize, n: usize, below: Shift)
-    requires { n ≤ 32 }
-    ensures { pool.new ≡ sizes_of pool.old b below.0 n 0 0 }
+fn compute_sizes(pool: &mut [u64], b: usize, n: Count, below: Shift)
+    ensures { pool.new ≡ sizes_of pool.old b below.0 n.at 0 0 }
 {
     let mut sum: usize = 0;
-    for at in 0..n {
+    for at in 0..n.at {
         let i = Slot { at };
         let k = blocks::child(pool, b, i);
         sum = sum.wrapping_add(size_sub_trie(pool, k, below));
@@ -77,11 +75,10 @@ fn compute_sizes(pool: &mut [u64], b: usize, n: usize, below: Shift)
 
 // Makes of block b, whose first n slots are set, a node at a level: its count, kind and sizes.
 #[tactic(auto, unfolding(crate::specs::Builds::built_of))]
-pub fn build(pool: &mut [u64], b: usize, n: usize, shift: Shift)
-    requires { n ≤ 32 }
-    ensures { pool.new ≡ built_of pool.old b n shift.0 }
+pub fn build(pool: &mut [u64], b: usize, n: Count, shift: Shift)
+    ensures { pool.new ≡ built_of pool.old b n.at shift.0 }
 {
-    blocks::put(pool, b, Field::Count, n as u64);
+    blocks::put(pool, b, Field::Count, n.at as u64);
     if shift.is_leaf_level() {
         blocks::put(pool, b, Field::Kind, Kind::Leaf.into());
         return;

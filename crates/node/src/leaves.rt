@@ -6,7 +6,7 @@ ghost use Rattle.blocks.specs.Pools.{on, Gives};
 ghost use Rattle.node.specs.Leaves.{store_of, leaf_of, take_of};
 
 use blocks::{Field, Kind, Pool};
-use levels::Slot;
+use levels::{Count, Slot};
 
 // Words for the slots of a node.
 #[derive(Clone, Copy)]
@@ -25,12 +25,11 @@ pub fn leaf_add(part: &mut [u64], i: usize, x: u64)
 }
 
 // Stores the words of src after the first n of the part, as many as there is room for.
-pub fn leaf_merge(part: &mut [u64], n: usize, src: &[u64])
-    requires { n ≤ 32 }
-    ensures { part.new ≡ sets part.old n src.now }
+pub fn leaf_merge(part: &mut [u64], n: Count, src: &[u64])
+    ensures { part.new ≡ sets part.old n.at src.now }
 {
     for (i, x) in src.iter().enumerate() {
-        leaf_add(part, n + i, *x);
+        leaf_add(part, n.at + i, *x);
     }
 }
 
@@ -42,7 +41,7 @@ pub fn slots_fill(pool: &mut [u64], b: usize, src: Slots<'_>)
     if b < blocks::total(pool) {
         let start = b * blocks::WORDS + blocks::SLOTS;
         let end = start + 32;
-        leaf_merge(&mut pool[start..end], 0, src.words);
+        leaf_merge(&mut pool[start..end], Count { at: 0 }, src.words);
     }
 }
 

@@ -61,7 +61,7 @@ impl Search {
         let kid = Cursor {
             block: blocks::child(pool, block, i),
             shift: shift.dec(),
-            place: place.less(node::before(pool, block, i.at)),
+            place: place.less(node::before(pool, block, i.before())),
         };
         if i.at < 31 {
             return Search {

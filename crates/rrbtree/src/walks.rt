@@ -49,7 +49,7 @@ impl Cursor {
         let below = shift.dec();
         if blocks::is_relaxed(pool, block) {
             let i = node::first_above(pool, block, shift, place);
-            let before = node::before(pool, block, i.at);
+            let before = node::before(pool, block, i.before());
             return Cursor {
                 block: blocks::child(pool, block, i),
                 shift: below,

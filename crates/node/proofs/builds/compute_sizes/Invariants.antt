@@ -4,4 +4,4 @@ use Rattle.node.specs.Builds.{sizes_of}
 use Rattle.node.proofs.builds.compute_sizes.Given as goal
 
 abbrev pub invariant-loop-at : goal.invariant-loop-at
-invariant-loop-at l = sizes_of l.initial.pool l.b l.below.0 l.n 0 0 ≡ sizes_of l.pool l.b l.below.0 (l.n - l.at) l.at l.sum
+invariant-loop-at l = sizes_of l.initial.pool l.b l.below.0 l.fn.n.at 0 0 ≡ sizes_of l.pool l.b l.below.0 (l.fn.n.at - l.at) l.at l.sum
