@@ -3,3 +3,4 @@ pub mod Spines
 pub mod Plans
 pub mod Packs
 pub mod Merges
+pub mod Lent

@@ -1,21 +1,28 @@
 -- The merge: a recursion down both spines and up again, on the words of a pool (ws) and of the work area (w).
-use Rattle.std.specs.Prelude.{◌≡◌, ℕ, zero, suc, ◌+◌, ◌-◌, ◌*◌, ◌<◌, ◌≤◌, min, List, length, replicate, nat_lt, slice_index, slice_set}
+use Rattle.std.specs.Prelude.{◌≡◌, ℕ, zero, suc, ◌+◌, ◌-◌, ◌*◌, ◌<◌, ◌≤◌, min, List, Option, None, Some, length, replicate, nat_lt, slice_index, slice_set}
 use Rattle.std.proofs.Math.Path.{refl}
-use Rattle.std.proofs.Common.{add-one}
+use Rattle.std.proofs.Common.{◌∙◌, ap, add-one}
 use native.Mathlib.Omega.{arith}
 use borrow.Author.Tests.{lt-ltb, le-ltb}
 use Rattle.std.proofs.lemmas.List.Edits.{sets}
 use Rattle.blocks.specs.Words.{pick, count_of, slot_of}
 use Rattle.blocks.specs.Chain.{on_chain, release_of}
 use Rattle.blocks.specs.declared.State.{State}
+use Rattle.node.specs.Leaves.{slots_from}
 use Rattle.merging.specs.Areas.{row_len, set_row_place, item_of, add_item, node_at}
 use Rattle.merging.specs.Spines.{others_of, below_of}
 use Rattle.merging.specs.Packs.{Out, insert_of, squeeze_of}
-use Rattle.merging.specs.declared.merges.Merged.{Merged}
+use Rattle.levels.specs.declared.Shift.{Shift}
 use Rattle.merging.specs.declared.spines.Spine.{Spine}
 use Rattle.merging.specs.declared.spines.Pair.{Pair}
 use Rattle.merging.specs.declared.spines.Others.{Others}
 use Rattle.merging.specs.declared.spines.Others.TheVariants as others
+
+-- the merged tree's root and level, and the state after
+pub record Merged : Type 0 where
+  pub root : ℕ
+  pub shift : Shift
+  pub state : State
 
 -- n children of b from child i on added to row j
 unfoldable pub add_from : List ℕ → List ℕ → ℕ → ℕ → ℕ → ℕ → List ℕ
@@ -34,13 +41,13 @@ unfoldable pub row_slots : List ℕ → List ℕ → ℕ → ℕ
 row_slots ws w j = slots_sum ws w j (row_len w j) 0
 
 -- the nodes beside a spine go into row j, and their spine node is released
-unfoldable pub collect_of : List ℕ → State → List ℕ → ℕ → Others → State × List ℕ × List ℕ
-collect_of ws st w j others.None = (st, ws, w)
-collect_of ws st w j (others.Kids b start to) = (on_chain st b, release_of ws st b, add_items ws w j b start to)
-collect_of ws st w j (others.Only b) = (st, ws, add_item w j b)
+unfoldable pub collect_of : List ℕ → State → List ℕ → ℕ → Option Others → State × List ℕ × List ℕ
+collect_of ws st w j None = (st, ws, w)
+collect_of ws st w j (Some (others.Kids b start to)) = (on_chain st b, release_of ws st b, add_items ws w j b start to)
+collect_of ws st w j (Some (others.Only b)) = (st, ws, add_item w j b)
 
 -- both spines' nodes go into row j, the left ones first; its place is after those
-unfoldable pub collect_both : List ℕ → State → List ℕ → ℕ → Others → Others → State × List ℕ × List ℕ
+unfoldable pub collect_both : List ℕ → State → List ℕ → ℕ → Option Others → Option Others → State × List ℕ × List ℕ
 collect_both ws st w j l r =
     let p = collect_of ws st w j l in
     collect_of p.1 p.0 (set_row_place p.2 j (row_slots p.1 p.2 j)) j r
@@ -121,6 +128,19 @@ module _ (ws w : List ℕ) (b out n i : ℕ) where
   pub lift_at : i < n → lift_from ws w b out (n - i) i ≡ lift_from ws (slice_set w (node_at out + i) (slot_of ws b i)) b out (n - (i + 1)) (i + 1)
   unfolding lift_from
   lift_at h = let e : n - i ≡ suc (n - (i + 1)) = omega arith in rw (e, add-one)
+
+-- a leaf's elements go up as a tail's words do
+lift_sets : (ws w : List ℕ) (b out n i : ℕ) → lift_from ws w b out n i ≡ sets w (node_at out + i) (slots_from ws b i n)
+unfolding lift_from slots_from
+lift_sets ws w b out zero i = refl
+lift_sets ws w b out (suc n) i =
+    let v = slice_set w (node_at out + i) (slot_of ws b i) in
+    let e : node_at out + suc i ≡ suc (node_at out + i) = omega arith in
+    lift_sets ws v b out n (suc i) ∙ ap (λ (p : ℕ). sets v p (slots_from ws b (suc i) n)) e
+
+pub leaf_sets : (ws w : List ℕ) (b out : ℕ) → lift_leaf ws w b out ≡ sets w (node_at out) (slots_from ws b 0 (count_of ws b))
+unfolding lift_leaf
+leaf_sets ws w b out = let e : node_at out + 0 ≡ node_at out = omega arith in rw (lift_sets ws w b out (count_of ws b) 0, e)
 
 module _ (ws : List ℕ) (st : State) (w xs : List ℕ) (l r : Spine) where
   pub merge_bottom : (j : ℕ) → j ≡ 0 → merge_level j ws st w xs l r ≡ lift_leaves ws st w xs l.block r.block

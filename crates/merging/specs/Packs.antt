@@ -3,16 +3,19 @@ use Rattle.std.specs.Prelude.{◌≡◌, ℕ, zero, suc, ◌+◌, ◌-◌, ◌*�
 use Rattle.std.proofs.Math.Path.{refl}
 use Rattle.std.proofs.Math.Numerals.{add-one}
 use native.Mathlib.Omega.{arith}
-use Rattle.std.proofs.Common.{lt-ltb, le-ltb}
+use Rattle.std.proofs.Common.{sym, ◌∙◌, lt-ltb, le-ltb}
 use borrow.Rule.Slice.PartMut.{mid_of}
 use Rattle.blocks.specs.Words.{pick, count_of, slot_of}
-use Rattle.blocks.specs.Chain.{alloc_of, on_chain, release_of}
+use Rattle.blocks.specs.Chain.{Got, alloc_of, on_chain, release_of}
 use Rattle.blocks.specs.declared.State.{State}
-use Rattle.blocks.specs.declared.Got.{Got}
 use Rattle.node.specs.Leaves.{store_of}
 use Rattle.node.specs.Builds.{built_of}
 use Rattle.merging.specs.Areas.{row_len, set_row_len, row_place, item_of, node_at, flat_at}
-use Rattle.merging.specs.declared.packs.Packed.{Packed}
+
+-- how many nodes go up, and the state after
+pub record Packed : Type 0 where
+  pub n : ℕ
+  pub state : State
 
 -- what packing answers, the pool's words and the area's after it
 abbrev pub Out : Type 0
@@ -173,6 +176,12 @@ module _ (ws : List ℕ) (j q c n i t : ℕ) (w : List ℕ) where
       → pour_nodes ws j q c (n - i) i t w ≡ pour_nodes ws j q c (n - (i + 1)) (i + 1) p.0 p.1
   unfolding pour_nodes
   nodes_at h b p f g = let e : n - i ≡ suc (n - (i + 1)) = omega arith in rw (e, add-one, g, f)
+
+  -- a node whose slots were all laid
+  pub nodes_more : i < n → (b m s u : ℕ) (v : List ℕ) → b ≡ item_of w j i → m ≡ count_of ws b → m ≤ s
+      → pour_node ws b q c m 0 t w ≡ pour_node ws b q c (m - s) s u v
+      → pour_nodes ws j q c (n - i) i t w ≡ pour_nodes ws j q c (n - (i + 1)) (i + 1) u v
+  nodes_more h b m s u v f g l e = nodes_at h b (u, v) f (sym (rw (← g) (e ∙ node_end ws b q c m s u v l)))
 
 module _ (w : List ℕ) (j n i out : ℕ) where
   pub keep_end : n ≤ i → keep_of w j (n - i) i out ≡ w

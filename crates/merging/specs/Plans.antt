@@ -1,5 +1,5 @@
 -- Held after a merge, from counts alone.
-use Rattle.std.specs.Prelude.{◌≡◌, ℕ, zero, suc, ◌+◌, ◌-◌, ◌/◌, ◌<◌, ◌≤◌, min, List, nat_lt, refl}
+use Rattle.std.specs.Prelude.{◌≡◌, ℕ, zero, suc, ◌+◌, ◌-◌, ◌/◌, ◌<◌, ◌≤◌, min, List, Option, None, Some, nat_lt, refl}
 use Rattle.std.proofs.Common.{add-one}
 use native.Mathlib.Omega.{arith}
 use Rattle.levels.specs.Place.{plus}
@@ -20,11 +20,11 @@ unfoldable pub counts_of : List ℕ → ℕ → ℕ → ℕ → ℕ
 counts_of ws b start to = counts_from ws b (min to 32 - start) start 0
 
 -- the plan with the nodes beside a spine added
-unfoldable pub with_others : List ℕ → Plan → Others → Plan
-with_others ws p others.None = p
-with_others ws p (others.Kids b start to) =
+unfoldable pub with_others : List ℕ → Plan → Option Others → Plan
+with_others ws p None = p
+with_others ws p (Some (others.Kids b start to)) =
     record { slots = plus p.slots (counts_of ws b start to); made = p.made; gone = plus p.gone (plus (to - start) 1) }
-with_others ws p (others.Only b) = record { slots = plus p.slots (count_of ws b); made = p.made; gone = plus p.gone 1 }
+with_others ws p (Some (others.Only b)) = record { slots = plus p.slots (count_of ws b); made = p.made; gone = plus p.gone 1 }
 
 -- the plan with its slots packed into nodes
 unfoldable pub packed_of : Plan → Plan

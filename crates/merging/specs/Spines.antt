@@ -1,10 +1,12 @@
 -- The two spines along which trees meet, on the words of a pool.
-use Rattle.std.specs.Prelude.{◌≡◌, ℕ, ◌+◌, ◌/◌, min, max, Bool, true, false, List, ◌==◌, nat_lt}
+use Rattle.std.specs.Prelude.{◌≡◌, ℕ, ◌+◌, ◌/◌, min, max, List, Option, None, Some, ◌==◌, nat_lt}
 use Rattle.blocks.specs.Words.{pick, count_of, last_of, slot_of}
 use Rattle.rrbtree.specs.Rooms.{room_of}
 use Rattle.rrbtree.specs.declared.Tree.{Tree}
 use Rattle.rrbtree.specs.declared.rooms.Room.{Room}
 use Rattle.rrbtree.specs.declared.rooms.Room.TheVariants as room
+use Rattle.merging.specs.declared.spines.Side.{Side}
+use Rattle.merging.specs.declared.spines.Side.TheVariants as side
 use Rattle.merging.specs.declared.spines.Spine.{Spine}
 use Rattle.merging.specs.declared.spines.Pair.{Pair}
 use Rattle.merging.specs.declared.spines.Others.{Others}
@@ -25,32 +27,38 @@ pair_of ws a tail g =
     let h = a.shift.0 / 5 in
     let k = g.shift.0 / 5 in
     record {
-      left = record { block = a.root; height = h; stop = stop; right = false };
-      right = record { block = g.root; height = k; stop = 0; right = true };
+      left = record { block = a.root; height = h; side = side.Left stop };
+      right = record { block = g.root; height = k; side = side.Right };
       top = min (max (max h stop) k) 48;
     }
 
 -- what stands beside the left tree's spine below its node at height j: below the hanging tail nothing, at its height all
-unfoldable pub left_others : List ℕ → Spine → ℕ → Others
-left_others ws s j =
-    pick (nat_lt j s.stop) others.None
-    (pick (nat_lt s.height j) (pick (j == s.stop) (others.Only s.block) others.None)
-    (pick (j == s.stop) (others.Kids s.block 0 (count_of ws s.block)) (others.Kids s.block 0 (last_of ws s.block))))
+unfoldable pub left_others : List ℕ → ℕ → ℕ → ℕ → ℕ → Option Others
+left_others ws b height stop j =
+    pick (nat_lt j stop) None
+    (pick (nat_lt height j) (pick (j == stop) (Some (others.Only b)) None)
+    (pick (j == stop) (Some (others.Kids b 0 (count_of ws b))) (Some (others.Kids b 0 (last_of ws b)))))
 
-unfoldable pub others_of : List ℕ → Spine → ℕ → Others
-others_of ws s j =
-    pick s.right (pick (nat_lt s.height j) others.None (others.Kids s.block 1 (count_of ws s.block)))
-    (left_others ws s j)
+-- and beside the right tree's
+unfoldable pub right_others : List ℕ → ℕ → ℕ → ℕ → Option Others
+right_others ws b height j = pick (nat_lt height j) None (Some (others.Kids b 1 (count_of ws b)))
+
+abbrev others_by : List ℕ → ℕ → ℕ → ℕ → Side → Option Others
+others_by ws b height j (side.Left stop) = left_others ws b height stop j
+others_by ws b height j side.Right = right_others ws b height j
+
+unfoldable pub others_of : List ℕ → Spine → ℕ → Option Others
+others_of ws s j = others_by ws s.block s.height j s.side
+
+-- the child of a spine node along which the spine goes on
+abbrev next_of : List ℕ → ℕ → Side → ℕ
+next_of ws b (side.Left stop) = slot_of ws b (last_of ws b)
+next_of ws b side.Right = slot_of ws b 0
 
 -- the spine one level below height j
 unfoldable pub below_of : List ℕ → Spine → ℕ → Spine
-below_of ws s j =
-    let next = pick s.right (slot_of ws s.block 0) (slot_of ws s.block (last_of ws s.block)) in
-    record { block = pick (nat_lt s.height j) s.block next; height = s.height; stop = s.stop; right = s.right }
+below_of ws s j = record { block = pick (nat_lt s.height j) s.block (next_of ws s.block s.side); height = s.height; side = s.side }
 
-pub others_left : (ws : List ℕ) (s : Spine) (j : ℕ) → s.right ≡ false → others_of ws s j ≡ left_others ws s j
+pub others_left : (ws : List ℕ) (s : Spine) (stop j : ℕ) → s.side ≡ side.Left stop → others_of ws s j ≡ left_others ws s.block s.height stop j
 unfolding others_of
-others_left ws s j e = go s.right e
-  where
-    go : (t : Bool) → t ≡ false → pick t (pick (nat_lt s.height j) others.None (others.Kids s.block 1 (count_of ws s.block))) (left_others ws s j) ≡ left_others ws s j
-    go t f = rw f
+others_left ws s stop j e = rw e

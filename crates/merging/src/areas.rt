@@ -1,6 +1,11 @@
 // The lent work area: a row of nodes for each height, the nodes from below, and slots laid flat.
-ghost use Rattle.std.specs.Prelude.{◌≡◌, ◌<◌, min, length, replicate, slice_index, slice_set};
-ghost use Rattle.merging.specs.Areas.{row_len, set_row_len, row_place, set_row_place, item_of, add_item};
+ghost use Rattle.std.specs.Prelude.{◌≡◌, ◌+◌, ◌-◌, ◌<◌, ◌≤◌, length, replicate, slice_index, slice_range, slice_set, MatchOption};
+ghost use Rattle.std.proofs.lemmas.List.Edits.{sets};
+ghost use Rattle.merging.specs.Areas.{Stores, row_len, set_row_len, row_place, set_row_place, item_of, add_item, node_at, flat_at};
+ghost use Rattle.merging.specs.Packs.{lay_nodes, keep_of};
+
+use levels::{Below, Count};
+use node::Slots;
 
 // A row for each of 50 heights: its length, its place, at most 62 nodes.
 pub const ROWS: usize = 50;
@@ -15,99 +20,151 @@ pub const FLAT: usize = 3264;
 
 pub const WORK: usize = 5312;
 
-pub fn least(a: usize, b: usize) -> usize
-    ensures { result ≡ min a b }
-{
-    if a < b {
-        return a;
+// A row, by its height.
+pub type Row = Below<50>;
+
+// A number of nodes of a row.
+pub type InRow = Below<63>;
+
+// A number of nodes or elements from below.
+pub type Raised = Below<65>;
+
+// A number of nodes that go up.
+pub type Rising = Below<201>;
+
+// A number of flat slots.
+pub type FlatSlots = Below<200001>;
+
+// A lent work area.
+#[derive(Drop)]
+pub struct Area<'a> {
+    pub words: &'a mut [u64],
+}
+
+impl Area<'_> {
+    pub fn words(&self) -> &[u64]
+        ensures { result.now ≡ self.now.words.now }
+    {
+        self.words
     }
-    b
-}
 
-// Word i of the area; 0 past its end.
-pub fn get(work: &[u64], i: usize) -> u64
-    ensures { result ≡ slice_index work.now i }
-{
-    if i < work.len() {
-        return work[i];
+    // The whole area zero.
+    pub fn clear(&mut self)
+        ensures { Stores self.old self.new (replicate (length self.old.words.now) 0) }
+    {
+        self.words.fill(0);
     }
-    0
-}
 
-// Stores word i of the area; past its end nothing.
-pub fn put(work: &mut [u64], i: usize, x: u64)
-    ensures { work.new ≡ slice_set work.old i x }
-{
-    if i < work.len() {
-        work[i] = x;
+    // Word i of the area; 0 past its end.
+    pub fn get(&self, i: usize) -> u64
+        ensures { result ≡ slice_index self.now.words.now i }
+    {
+        self.words.get(i).copied().unwrap_or(0)
     }
-}
 
-// The whole area zero.
-pub fn clear(work: &mut [u64])
-    ensures { work.new ≡ replicate (length work.old) 0 }
-{
-    let mut i: usize = 0;
-    while i < work.len() {
-        work[i] = 0;
-        i += 1;
+    // Stores word i of the area; past its end nothing.
+    pub fn put(&mut self, i: usize, x: u64)
+        ensures { Stores self.old self.new (slice_set self.old.words.now i x) }
+    {
+        if i < self.words.len() {
+            self.words[i] = x;
+        }
     }
-}
 
-// The nodes in row j.
-pub fn row_len(work: &[u64], j: usize) -> usize
-    requires { j < 50 }
-    ensures { result ≡ row_len work.now j }
-{
-    let n = get(work, j * WIDTH) as usize;
-    if n < 62 {
-        return n;
+    // The nodes in row j.
+    pub fn row_len(&self, j: Row) -> InRow
+        ensures { result.at ≡ row_len self.now.words.now j.at }
+    {
+        InRow {
+            at: (self.get(j.at * WIDTH) as usize).min(62),
+        }
     }
-    62
-}
 
-pub fn set_row_len(work: &mut [u64], j: usize, n: usize)
-    requires { j < 50 }
-    ensures { work.new ≡ set_row_len work.old j n }
-{
-    put(work, j * WIDTH, n as u64);
-}
-
-// The slots of row j before which the nodes from below go.
-pub fn row_place(work: &[u64], j: usize) -> usize
-    requires { j < 50 }
-    ensures { result ≡ row_place work.now j }
-{
-    let p = get(work, j * WIDTH + 1) as usize;
-    if p < 2048 {
-        return p;
+    #[tactic(auto, unfolding(crate::specs::Areas::set_row_len))]
+    pub fn set_row_len(&mut self, j: Row, n: usize)
+        ensures { Stores self.old self.new (set_row_len self.old.words.now j.at n) }
+    {
+        self.put(j.at * WIDTH, n as u64);
     }
-    2048
-}
 
-pub fn set_row_place(work: &mut [u64], j: usize, p: usize)
-    requires { j < 50 }
-    ensures { work.new ≡ set_row_place work.old j p }
-{
-    put(work, j * WIDTH + 1, p as u64);
-}
+    // The slots of row j before which the nodes from below go.
+    pub fn row_place(&self, j: Row) -> usize
+        ensures { result ≡ row_place self.now.words.now j.at }
+    {
+        (self.get(j.at * WIDTH + 1) as usize).min(2048)
+    }
 
-// Node i of row j.
-pub fn item(work: &[u64], j: usize, i: usize) -> usize
-    requires { (j < 50) × (i < 62) }
-    ensures { result ≡ item_of work.now j i }
-{
-    get(work, j * WIDTH + 2 + i) as usize
-}
+    #[tactic(auto, unfolding(crate::specs::Areas::set_row_place))]
+    pub fn set_row_place(&mut self, j: Row, p: usize)
+        ensures { Stores self.old self.new (set_row_place self.old.words.now j.at p) }
+    {
+        self.put(j.at * WIDTH + 1, p as u64);
+    }
 
-// Adds block b to row j, while there is room.
-pub fn add_item(work: &mut [u64], j: usize, b: usize)
-    requires { j < 50 }
-    ensures { work.new ≡ add_item work.old j b }
-{
-    let n = row_len(work, j);
-    if n < 62 {
-        put(work, j * WIDTH + 2 + n, b as u64);
-        set_row_len(work, j, n + 1);
+    // Node i of row j.
+    #[tactic(auto, unfolding(crate::specs::Areas::item_of))]
+    pub fn item(&self, j: Row, i: usize) -> usize
+        requires { i < 62 }
+        ensures { result ≡ item_of self.now.words.now j.at i }
+    {
+        self.get(j.at * WIDTH + 2 + i) as usize
+    }
+
+    // Adds block b to row j, while there is room.
+    #[tactic(auto, unfolding(crate::specs::Areas::add_item))]
+    pub fn add_item(&mut self, j: Row, b: usize)
+        ensures { Stores self.old self.new (add_item self.old.words.now j.at b) }
+    {
+        let n = self.row_len(j).at;
+        if n < 62 {
+            self.put(j.at * WIDTH + 2 + n, b as u64);
+            self.set_row_len(j, n + 1);
+        }
+    }
+
+    // The first c nodes from below become the flat slots from q on.
+    #[tactic(auto, using(crate::specs::Packs::lay_at, crate::specs::Packs::lay_end))]
+    pub fn lay_nodes(&mut self, q: usize, c: Raised)
+        requires { q ≤ 2048 }
+        ensures { Stores self.old self.new (lay_nodes self.old.words.now q c.at 0) }
+    {
+        for i in 0..c.at {
+            let x = self.get(NODES + i);
+            self.put(FLAT + q + i, x);
+        }
+    }
+
+    // The nodes k..end of row j go up, after the first out.
+    #[tactic(auto, using(crate::specs::Packs::keep_at, crate::specs::Packs::keep_end))]
+    pub fn keep(&mut self, j: Row, k: usize, end: InRow, out: Rising)
+        ensures { Stores self.old self.new (keep_of self.old.words.now j.at (end.at - k) k out.at) }
+    {
+        for i in k..end.at {
+            let b = self.item(j, i);
+            self.put(NODES + out.at + (i - k), b as u64);
+        }
+    }
+
+    // The m flat slots from t on, where they are there.
+    pub fn flat(&self, t: FlatSlots, m: Count) -> Option<Slots<'_>>
+        ensures { MatchOption result (length self.now.words.now < flat_at t.at + m.at) (λ s. (flat_at t.at + m.at ≤ length self.now.words.now) × (s.words.now ≡ slice_range self.now.words.now (flat_at t.at) (flat_at t.at + m.at))) }
+    {
+        let start = FLAT + t.at;
+        let end = start + m.at;
+        if end <= self.words.len() {
+            return Some(Slots {
+                words: &self.words[start..end],
+            });
+        }
+        None
+    }
+
+    // Words go up, after the first out.
+    pub fn lift(&mut self, words: &[u64], out: Count)
+        ensures { Stores self.old self.new (sets self.old.words.now (node_at out.at) words.now) }
+    {
+        for (i, x) in words.iter().enumerate() {
+            self.put(NODES + out.at + i, *x);
+        }
     }
 }

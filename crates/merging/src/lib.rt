@@ -7,7 +7,15 @@ mod packs;
 mod plans;
 mod spines;
 
-pub use areas::{WORK, clear};
-pub use merges::{Merged, merge};
+pub use areas::{Area, WORK};
+use blocks::Pool;
+pub use merges::Merged;
 pub use plans::held_after;
 pub use spines::{Pair, pair_of};
+
+// What a merge is lent: the pool with its state record, and a work area.
+#[derive(Drop)]
+pub struct Lent<'p, 'w> {
+    pub pool: Pool<'p>,
+    pub area: Area<'w>,
+}

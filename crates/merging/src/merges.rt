@@ -1,191 +1,146 @@
 // The merge: a recursion down both spines and up again.
-ghost use Rattle.std.specs.Prelude.{◌≡◌, ◌+◌, ◌<◌, ◌≤◌, length};
-ghost use Rattle.merging.specs.Merges.{add_items, row_slots, collect_of, collect_both, lift_leaf, lift_tail, lift_leaves, merge_level, merge_of};
+ghost use Rattle.std.specs.Prelude.{◌≡◌, ◌*◌, ◌≤◌, min, slice_index};
+ghost use Rattle.merging.specs.Areas.{node_at};
+ghost use Rattle.merging.specs.Lent.{on, Holds, Becomes, Packs, Joins};
+ghost use Rattle.merging.specs.Merges.{add_items, row_slots, collect_of, collect_both, lift_leaf, lift_leaves, merge_level, merge_of};
 
-use crate::packs::Packed;
+use crate::areas::{NODES, Row};
 use crate::spines::{Others, Spine};
-use crate::{Pair, areas, packs, spines};
-use blocks::State;
-use levels::Shift;
+use crate::{Lent, Pair};
+use levels::{Count, Shift, Slot};
+use node::Slots;
 
-// The merged tree's root and level, and the state after.
+// The merged tree's root and level.
 #[derive(Clone, Copy)]
 pub struct Merged {
     pub root: usize,
     pub shift: Shift,
-    pub state: State,
 }
 
-// Adds the children from..to of block b to row j.
-fn add_items(pool: &[u64], work: &mut [u64], j: usize, b: usize, from: usize, to: usize)
-    requires { j < 50 }
-    ensures { work.new ≡ add_items pool.now work.old j b from to }
-{
-    let end = areas::least(to, 32);
-    let mut i = from;
-    while i < end {
-        areas::add_item(work, j, blocks::child(pool, b, i));
-        i += 1;
-    }
-}
-
-// The slots of the nodes of row j.
-fn row_slots(pool: &[u64], work: &[u64], j: usize) -> usize
-    requires { j < 50 }
-    ensures { result ≡ row_slots pool.now work.now j }
-{
-    let n = areas::row_len(work, j);
-    let mut i: usize = 0;
-    let mut sum: usize = 0;
-    while i < n {
-        sum += blocks::count(pool, areas::item(work, j, i));
-        i += 1;
-    }
-    sum
-}
-
-// The nodes beside a spine go into row j, and their spine node is released.
-fn collect(pool: &mut [u64], st: State, work: &mut [u64], j: usize, o: Others) -> State
-    requires { j < 50 }
-    ensures { (result ≡ (collect_of pool.old st work.old j o).0) × ((pool.new ≡ (collect_of pool.old st work.old j o).1) × (work.new ≡ (collect_of pool.old st work.old j o).2)) }
-{
-    match o {
-        Others::None => st,
-        Others::Kids(b, from, to) => {
-            add_items(pool, work, j, b, from, to);
-            blocks::release(pool, st, b)
-        }
-        Others::Only(b) => {
-            areas::add_item(work, j, b);
-            st
+impl Lent<'_, '_> {
+    // Adds the children from..to of block b to row j.
+    #[tactic(auto, using(crate::specs::Merges::add_at, crate::specs::Merges::add_end), unfolding(crate::specs::Merges::add_items))]
+    fn add_items(&mut self, j: Row, b: usize, from: usize, to: usize)
+        ensures { Holds self.old self.new self.old.pool.state self.old.pool.words.now (add_items self.old.pool.words.now self.old.area.words.now j.at b from to) }
+    {
+        for at in from..to.min(32) {
+            let kid = blocks::child(self.pool.words(), b, Slot { at });
+            self.area.add_item(j, kid);
         }
     }
-}
 
-// Both spines' nodes go into row j, the left ones first; its place is after those.
-fn collect_both(
-    pool: &mut [u64],
-    st: State,
-    work: &mut [u64],
-    j: usize,
-    l: Others,
-    r: Others,
-) -> State
-    requires { j < 50 }
-    ensures { (result ≡ (collect_both pool.old st work.old j l r).0) × ((pool.new ≡ (collect_both pool.old st work.old j l r).1) × (work.new ≡ (collect_both pool.old st work.old j l r).2)) }
-{
-    let s = collect(pool, st, work, j, l);
-    let p = row_slots(pool, work, j);
-    areas::set_row_place(work, j, p);
-    collect(pool, s, work, j, r)
-}
+    // The slots of the nodes of row j.
+    #[tactic(auto, using(crate::specs::Merges::slots_at, crate::specs::Merges::slots_end), unfolding(crate::specs::Merges::row_slots))]
+    fn row_slots(&self, j: Row) -> usize
+        ensures { result ≡ row_slots self.now.pool.words.now self.now.area.words.now j.at }
+    {
+        let mut sum: usize = 0;
+        for i in 0..self.area.row_len(j).at {
+            sum += self.count(j, i);
+        }
+        sum
+    }
 
-// The elements of leaf b go up, after the first out.
-fn lift_leaf(pool: &[u64], work: &mut [u64], b: usize, out: usize)
-    requires { out ≤ 32 }
-    ensures { work.new ≡ lift_leaf pool.now work.old b out }
-{
-    let n = blocks::count(pool, b);
-    let mut i: usize = 0;
-    while i < n {
-        areas::put(work, areas::NODES + out + i, blocks::slot(pool, b, i));
-        i += 1;
+    // The nodes beside a spine go into row j, and their spine node is released.
+    #[tactic(auto, unfolding(crate::specs::Merges::collect_of))]
+    fn collect(&mut self, j: Row, o: Option<Others>)
+        ensures { Becomes self.old self.new (on collect_of self.old j.at o) }
+    {
+        match o {
+            None => {}
+            Some(Others::Kids(b, from, to)) => {
+                self.add_items(j, b, from, to);
+                self.pool.release(b);
+            }
+            Some(Others::Only(b)) => {
+                self.area.add_item(j, b);
+            }
+        }
     }
-}
 
-// The words of a tail go up.
-fn lift_tail(work: &mut [u64], tail: &[u64])
-    ensures { work.new ≡ lift_tail work.old tail.now }
-{
-    let mut i: usize = 0;
-    while i < tail.len() {
-        areas::put(work, areas::NODES + i, tail[i]);
-        i += 1;
+    // Both spines' nodes go into row j, the left ones first; its place is after those.
+    #[tactic(auto, unfolding(crate::specs::Merges::collect_both))]
+    fn collect_both(&mut self, j: Row, l: Option<Others>, r: Option<Others>)
+        ensures { Becomes self.old self.new (on collect_both self.old j.at l r) }
+    {
+        self.collect(j, l);
+        let p = self.row_slots(j);
+        self.area.set_row_place(j, p);
+        self.collect(j, r);
     }
-}
 
-// The elements of the two leaves that meet go up; a tail stands for the left one.
-fn lift_leaves(
-    pool: &mut [u64],
-    st: State,
-    work: &mut [u64],
-    tail: &[u64],
-    l: usize,
-    r: usize,
-) -> Packed
-    requires { length tail.now ≤ 32 }
-    ensures { (result ≡ (lift_leaves pool.old st work.old tail.now l r).0) × ((pool.new ≡ (lift_leaves pool.old st work.old tail.now l r).1) × (work.new ≡ (lift_leaves pool.old st work.old tail.now l r).2)) }
-{
-    let t = tail.len();
-    let n = blocks::count(pool, r);
-    if 0 < t {
-        lift_tail(work, tail);
-        lift_leaf(pool, work, r, t);
-        let s = blocks::release(pool, st, r);
-        return Packed { n: t + n, state: s };
+    // The elements of leaf b go up, after the first out.
+    #[tactic(auto, using(crate::specs::Merges::leaf_sets))]
+    fn lift_leaf(&mut self, b: usize, out: Count)
+        ensures { Holds self.old self.new self.old.pool.state self.old.pool.words.now (lift_leaf self.old.pool.words.now self.old.area.words.now b out.at) }
+    {
+        self.area.lift(node::in_use(self.pool.words(), b), out);
     }
-    let m = blocks::count(pool, l);
-    lift_leaf(pool, work, l, 0);
-    lift_leaf(pool, work, r, m);
-    let s = blocks::release(pool, st, l);
-    let next = blocks::release(pool, s, r);
-    Packed {
-        n: m + n,
-        state: next,
-    }
-}
 
-// The spines from height j down: what goes up to height j.
-fn merge_level(
-    pool: &mut [u64],
-    st: State,
-    work: &mut [u64],
-    tail: &[u64],
-    l: Spine,
-    r: Spine,
-    j: usize,
-) -> Packed
-    requires { (length tail.now ≤ 32) × (j ≤ 50) }
-    ensures { (result ≡ (merge_level j pool.old st work.old tail.now l r).0) × ((pool.new ≡ (merge_level j pool.old st work.old tail.now l r).1) × (work.new ≡ (merge_level j pool.old st work.old tail.now l r).2)) }
-{
-    if j == 0 {
-        return lift_leaves(pool, st, work, tail, l.block, r.block);
+    // The elements of the two leaves that meet go up; a tail stands for the left one.
+    #[tactic(auto, unfolding(crate::specs::Merges::lift_leaves, crate::specs::Merges::lift_tail))]
+    fn lift_leaves(&mut self, tail: Slots<'_>, l: usize, r: usize) -> usize
+        ensures { Packs self.old self.new result (on lift_leaves self.old tail.entry.words.now l r) }
+    {
+        let t = tail.words.len();
+        let n = blocks::count(self.pool.words(), r);
+        if 0 < t {
+            self.area.lift(tail.words, Count { at: 0 });
+            self.lift_leaf(r, Count { at: t });
+            self.pool.release(r);
+            return t + n;
+        }
+        let m = blocks::count(self.pool.words(), l);
+        self.lift_leaf(l, Count { at: 0 });
+        self.lift_leaf(r, Count { at: m });
+        self.pool.release(l);
+        self.pool.release(r);
+        m + n
     }
-    let k = j - 1;
-    let l_others = spines::beside(pool, l, j);
-    let r_others = spines::beside(pool, r, j);
-    let l_below = spines::below(pool, l, j);
-    let r_below = spines::below(pool, r, j);
-    let s = collect_both(pool, st, work, k, l_others, r_others);
-    let next = packs::squeeze(pool, s, work, k);
-    let p = merge_level(pool, next, work, tail, l_below, r_below, k);
-    packs::insert(pool, p.state, work, k, p.n)
-}
 
-// Merges the pair of trees, the left one with its tail.
-pub fn merge(pool: &mut [u64], st: State, work: &mut [u64], tail: &[u64], p: Pair) -> Merged
-    requires { (length tail.now ≤ 32) × (p.top ≤ 48) }
-    ensures { (result ≡ (merge_of pool.old st work.old tail.now p).0) × ((pool.new ≡ (merge_of pool.old st work.old tail.now p).1) × (work.new ≡ (merge_of pool.old st work.old tail.now p).2)) }
-{
-    areas::clear(work);
-    let top = p.top;
-    let l = p.left;
-    let r = p.right;
-    let c = merge_level(pool, st, work, tail, l, r, top);
-    let one = packs::insert(pool, c.state, work, top, c.n);
-    let s = one.state;
-    if one.n < 2 {
-        return Merged {
-            root: areas::get(work, areas::NODES) as usize,
-            shift: Shift::at(top),
-            state: s,
-        };
+    // The spines from height j down: what goes up to height j.
+    fn merge_level(&mut self, tail: Slots<'_>, l: Spine, r: Spine, j: usize) -> usize
+        requires { j ≤ 50 }
+        ensures { Packs self.old self.new result (on (merge_level j) self.old tail.entry.words.now l r) }
+    {
+        if j == 0 {
+            return self.lift_leaves(tail, l.block, r.block);
+        }
+        let row = Row { at: j - 1 };
+        let l_others = l.beside(self.pool.words(), j);
+        let r_others = r.beside(self.pool.words(), j);
+        let l_below = l.below(self.pool.words(), j);
+        let r_below = r.below(self.pool.words(), j);
+        self.collect_both(row, l_others, r_others);
+        self.squeeze(row);
+        let n = self.merge_level(tail, l_below, r_below, j - 1);
+        self.insert(row, n)
     }
-    let two = packs::insert(pool, s, work, top + 1, one.n);
-    let next = two.state;
-    Merged {
-        root: areas::get(work, areas::NODES) as usize,
-        shift: Shift::at(top + 1),
-        state: next,
+
+    // Merges the pair of trees, the left one with its tail.
+    pub fn merge(&mut self, tail: Slots<'_>, p: Pair) -> Merged
+        requires { p.top ≤ 48 }
+        ensures { Joins self.old self.new result.root result.shift (on merge_of self.old tail.entry.words.now p) }
+    {
+        self.area.clear();
+        let top = p.top;
+        let c = self.merge_level(tail, p.left, p.right, top);
+        let n = self.insert(Row { at: top }, c);
+        if n < 2 {
+            return self.merged(top);
+        }
+        self.insert(Row { at: top + 1 }, n);
+        self.merged(top + 1)
+    }
+
+    // The first node that went up as the root of a tree.
+    fn merged(&self, height: usize) -> Merged
+        ensures root { result.root ≡ slice_index self.now.area.words.now (node_at 0) }
+        ensures shift { result.shift ≡ record { 0 = min height 48 * 5 } }
+    {
+        Merged {
+            root: self.area.get(NODES) as usize,
+            shift: Shift::at(height),
+        }
     }
 }

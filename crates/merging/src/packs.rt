@@ -1,286 +1,222 @@
 // Packing the nodes of one height.
-ghost use Rattle.std.specs.Prelude.{◌≡◌, ◌+◌, ◌-◌, ◌<◌, ◌≤◌, max};
-ghost use Rattle.merging.specs.Packs.{lead_from, lay_nodes, next_flat, pour_out, keep_of, block_for, write_node, pour_in, release_items, pour_of, stays_whole, raise_nodes, raise_rest, insert_whole, insert_poured, insert_of, squeeze_of};
+ghost use Rattle.std.specs.Prelude.{◌≡◌, ◌+◌, ◌-◌, ◌*◌, ◌<◌, ◌≤◌, min, max};
+ghost use Rattle.blocks.specs.Words.{count_of};
+ghost use Rattle.merging.specs.Areas.{item_of};
+ghost use Rattle.blocks.specs.Pools.{Leaves};
+ghost use Rattle.node.specs.Leaves.{store_of};
+ghost use Rattle.node.specs.Builds.{built_of};
+ghost use Rattle.merging.specs.Lent.{on, Holds, Becomes, Packs};
+ghost use Rattle.merging.specs.Packs.{lead_from, next_flat, pour_out, block_for, write_node, pour_in, release_items, pour_of, stays_whole, raise_nodes, raise_rest, insert_whole, insert_poured, insert_of, squeeze_of};
 
-use crate::areas;
-use blocks::{Got, State};
-use levels::Shift;
-
-// How many nodes go up, and the state after.
-#[derive(Clone, Copy)]
-pub struct Packed {
-    pub n: usize,
-    pub state: State,
-}
-
-// The full nodes of row j from k on, before the first that is not full, and before node end.
-fn leading(pool: &[u64], work: &[u64], j: usize, k: usize, end: usize) -> usize
-    requires { (j < 50) × ((k ≤ 62) × (end ≤ 62)) }
-    ensures { (result ≡ lead_from pool.now work.now j (end - k) k) × ((k ≤ result) × (result ≤ max k end)) }
-{
-    let mut i = k;
-    while i < end {
-        if blocks::count(pool, areas::item(work, j, i)) != 32 {
-            break;
-        }
-        i += 1;
-    }
-    i
-}
-
-// The first c nodes from below become the flat slots from q on.
-fn lay_nodes(work: &mut [u64], q: usize, c: usize)
-    requires { (q ≤ 2048) × (c ≤ 64) }
-    ensures { work.new ≡ lay_nodes work.old q c 0 }
-{
-    let mut i: usize = 0;
-    while i < c {
-        let x = areas::get(work, areas::NODES + i);
-        areas::put(work, areas::FLAT + q + i, x);
-        i += 1;
-    }
-}
+use crate::Lent;
+use crate::areas::{FLAT, FlatSlots, InRow, NODES, Raised, Rising, Row};
+use blocks::Pool;
+use levels::{Count, Shift, Slot};
+use node::Slots;
 
 // The flat slot t, or the one past a gap of c that begins there.
-fn past_gap(t: usize, q: usize, c: usize) -> usize
-    requires { (t ≤ 200000) × (c ≤ 64) }
-    ensures { (result ≡ next_flat t q c) × (result ≤ t + c) }
+#[tactic(auto, unfolding(crate::specs::Packs::next_flat))]
+fn past_gap(t: FlatSlots, q: usize, c: Raised) -> usize
+    ensures next { result ≡ next_flat t.at q c.at }
+    ensures near { result ≤ t.at + c.at }
 {
-    if t == q {
-        return t + c;
+    if t.at == q {
+        return t.at + c.at;
     }
-    t
-}
-
-// Lays the slots of row j's nodes from k on flat, with a gap of c from q on. Where they end.
-fn pour_out(pool: &[u64], work: &mut [u64], j: usize, k: usize, q: usize, c: usize) -> usize
-    requires { (j < 50) × (c ≤ 64) }
-    ensures { (result ≡ (pour_out pool.now work.old j k q c).0) × ((work.new ≡ (pour_out pool.now work.old j k q c).1) × (result ≤ 200000)) }
-{
-    let n = areas::row_len(work, j);
-    let mut t = past_gap(0, q, c);
-    let mut i = k;
-    'nodes: while i < n {
-        let b = areas::item(work, j, i);
-        let m = blocks::count(pool, b);
-        let mut s: usize = 0;
-        i += 1;
-        loop {
-            if m <= s {
-                continue 'nodes;
-            }
-            areas::put(work, areas::FLAT + t, blocks::slot(pool, b, s));
-            t = past_gap(t + 1, q, c);
-            s += 1;
-        }
-    }
-    t
-}
-
-// The nodes k..end of row j go up, after the first out.
-fn keep(work: &mut [u64], j: usize, k: usize, end: usize, out: usize)
-    requires { (j < 50) × ((end ≤ 62) × (out ≤ 200000)) }
-    ensures { work.new ≡ keep_of work.old j (end - k) k out }
-{
-    let mut i = k;
-    let mut at = out;
-    while i < end {
-        let b = areas::item(work, j, i);
-        areas::put(work, areas::NODES + at, b as u64);
-        i += 1;
-        at += 1;
-    }
-}
-
-// A block for a node: the row's node i, or a free one.
-fn block_for(pool: &[u64], st: State, work: &[u64], j: usize, i: usize) -> Got
-    requires { j < 50 }
-    ensures { result ≡ block_for pool.now st work.now j i }
-{
-    if i < areas::row_len(work, j) {
-        return Got {
-            block: areas::item(work, j, i),
-            state: st,
-        };
-    }
-    blocks::alloc(pool, st)
-}
-
-// Makes block b a node of height j of the m flat slots from t on.
-fn write_node(pool: &mut [u64], work: &[u64], b: usize, t: usize, m: usize, j: usize)
-    requires { (t ≤ 200000) × (m ≤ 32) }
-    ensures { pool.new ≡ write_node pool.old work.now b t m j }
-{
-    let start = areas::FLAT + t;
-    let end = start + m;
-    if end <= work.len() {
-        node::slots_fill(pool, b, &work[start..end]);
-        node::build(pool, b, m, Shift::at(j));
-    }
-}
-
-// Pours so many flat slots into the row's nodes from k on, and new ones after them; they go up after the first out.
-fn pour_in(
-    pool: &mut [u64],
-    st: State,
-    work: &mut [u64],
-    j: usize,
-    k: usize,
-    total: usize,
-    out: usize,
-) -> Packed
-    requires { (j < 50) × ((k ≤ 62) × ((total ≤ 200000) × (out ≤ 200))) }
-    ensures { (result ≡ (pour_in pool.old st work.old j k total out).0) × ((pool.new ≡ (pour_in pool.old st work.old j k total out).1) × (work.new ≡ (pour_in pool.old st work.old j k total out).2)) }
-{
-    let mut left = total;
-    let mut i: usize = 0;
-    let mut s = st;
-    while 0 < left {
-        let g = block_for(pool, s, work, j, k + i);
-        let m = areas::least(32, left);
-        write_node(pool, work, g.block, i * 32, m, j);
-        areas::put(work, areas::NODES + out + i, g.block as u64);
-        s = g.state;
-        left -= m;
-        i += 1;
-    }
-    Packed {
-        n: out + i,
-        state: s,
-    }
-}
-
-// Releases the nodes of row j from k on.
-fn release_items(pool: &mut [u64], st: State, work: &[u64], j: usize, k: usize) -> State
-    requires { j < 50 }
-    ensures { (result ≡ (release_items pool.old st work.now j k).0) × (pool.new ≡ (release_items pool.old st work.now j k).1) }
-{
-    let n = areas::row_len(work, j);
-    let mut i = k;
-    let mut s = st;
-    while i < n {
-        s = blocks::release(pool, s, areas::item(work, j, i));
-        i += 1;
-    }
-    s
-}
-
-// Pours so many flat slots as above, after what is left over of the row's nodes was released.
-fn pour(
-    pool: &mut [u64],
-    st: State,
-    work: &mut [u64],
-    j: usize,
-    k: usize,
-    total: usize,
-    out: usize,
-) -> Packed
-    requires { (j < 50) × ((k ≤ 62) × ((total ≤ 200000) × (out ≤ 200))) }
-    ensures { (result ≡ (pour_of pool.old st work.old j k total out).0) × ((pool.new ≡ (pour_of pool.old st work.old j k total out).1) × (work.new ≡ (pour_of pool.old st work.old j k total out).2)) }
-{
-    let s = release_items(pool, st, work, j, k + (total + 31) / 32);
-    pour_in(pool, s, work, j, k, total, out)
-}
-
-// The first k nodes of row j go up, and after them new nodes of the c from below.
-fn raise_nodes(pool: &mut [u64], st: State, work: &mut [u64], j: usize, k: usize, c: usize) -> State
-    requires { (j < 50) × ((k ≤ 62) × (c ≤ 64)) }
-    ensures { (result ≡ (raise_nodes pool.old st work.old j k c).0) × ((pool.new ≡ (raise_nodes pool.old st work.old j k c).1) × (work.new ≡ (raise_nodes pool.old st work.old j k c).2)) }
-{
-    let n = areas::row_len(work, j);
-    lay_nodes(work, 0, c);
-    keep(work, j, 0, k, 0);
-    let p = pour_in(pool, st, work, j, n, c, k);
-    p.state
-}
-
-// The nodes k..l of row j go up after the first out, and after them what the others are poured into.
-fn raise_rest(
-    pool: &mut [u64],
-    st: State,
-    work: &mut [u64],
-    j: usize,
-    k: usize,
-    l: usize,
-    out: usize,
-) -> Packed
-    requires { (j < 50) × ((k ≤ l) × ((l ≤ 62) × (out ≤ 100))) }
-    ensures { (result ≡ (raise_rest pool.old st work.old j k l out).0) × ((pool.new ≡ (raise_rest pool.old st work.old j k l out).1) × (work.new ≡ (raise_rest pool.old st work.old j k l out).2)) }
-{
-    keep(work, j, k, l, out);
-    let t = pour_out(pool, work, j, l, 0, 0);
-    pour(pool, st, work, j, l, t, out + (l - k))
-}
-
-// The c nodes from below go whole between the first k nodes of row j and the others, of which full ones stay whole.
-fn insert_whole(
-    pool: &mut [u64],
-    st: State,
-    work: &mut [u64],
-    j: usize,
-    k: usize,
-    c: usize,
-) -> Packed
-    requires { (j < 50) × ((k ≤ 62) × (c ≤ 64)) }
-    ensures { (result ≡ (insert_whole pool.old st work.old j k c).0) × ((pool.new ≡ (insert_whole pool.old st work.old j k c).1) × (work.new ≡ (insert_whole pool.old st work.old j k c).2)) }
-{
-    let l = leading(pool, work, j, k, areas::row_len(work, j));
-    let more = (c + 31) / 32;
-    let s = raise_nodes(pool, st, work, j, k, c);
-    raise_rest(pool, s, work, j, k, l, k + more)
-}
-
-// The c nodes from below go between the slots, q after those of the first k nodes of row j, and all from there on is poured.
-fn insert_poured(
-    pool: &mut [u64],
-    st: State,
-    work: &mut [u64],
-    j: usize,
-    k: usize,
-    q: usize,
-    c: usize,
-) -> Packed
-    requires { (j < 50) × ((k ≤ 62) × ((q ≤ 2048) × (c ≤ 64))) }
-    ensures { (result ≡ (insert_poured pool.old st work.old j k q c).0) × ((pool.new ≡ (insert_poured pool.old st work.old j k q c).1) × (work.new ≡ (insert_poured pool.old st work.old j k q c).2)) }
-{
-    lay_nodes(work, q, c);
-    let t = pour_out(pool, work, j, k, q, c);
-    keep(work, j, 0, k, 0);
-    pour(pool, st, work, j, k, t, k)
+    t.at
 }
 
 // Whether c nodes from below at place p, after k full nodes, leave whole what follows them.
-fn stays_whole(k: usize, p: usize, c: usize) -> bool
-    requires { k ≤ 62 }
-    ensures { result ≡ stays_whole k p c }
+#[tactic(auto, unfolding(crate::specs::Packs::stays_whole))]
+fn stays_whole(k: InRow, p: usize, c: Raised) -> bool
+    ensures { result ≡ stays_whole k.at p c.at }
 {
-    if k * 32 == p {
-        return c % 32 == 0;
-    }
-    false
+    k.at * 32 == p && c.at % 32 == 0
 }
 
-// Puts the first nodes from below, c of them and 64 at most, at the place of row j. The nodes of that height go up.
-pub fn insert(pool: &mut [u64], st: State, work: &mut [u64], j: usize, c: usize) -> Packed
-    requires { j < 50 }
-    ensures { (result ≡ (insert_of pool.old st work.old j c).0) × ((pool.new ≡ (insert_of pool.old st work.old j c).1) × (work.new ≡ (insert_of pool.old st work.old j c).2)) }
+// Makes block b a node of height j of the m slots of src.
+fn fill_node(pool: &mut Pool<'_>, b: usize, src: Slots<'_>, m: Count, j: Row)
+    ensures { Leaves pool.old pool.new pool.old.state (built_of (store_of pool.old.words.now b 2 src.entry.words.now) b m.at (min j.at 48 * 5)) }
 {
-    let d = areas::least(c, 64);
-    let p = areas::row_place(work, j);
-    let end = areas::least(p / 32, areas::row_len(work, j));
-    let k = leading(pool, work, j, 0, end);
-    if stays_whole(k, p, d) {
-        return insert_whole(pool, st, work, j, k, d);
-    }
-    insert_poured(pool, st, work, j, k, p - k * 32, d)
+    node::slots_fill(&mut *pool.words, b, src);
+    node::build(&mut *pool.words, b, m, Shift::at(j.at));
 }
 
-// Packs the nodes of row j: full ones at the start stay whole, the others are poured.
-pub fn squeeze(pool: &mut [u64], st: State, work: &mut [u64], j: usize) -> State
-    requires { j < 50 }
-    ensures { (result ≡ (squeeze_of pool.old st work.old j).0) × ((pool.new ≡ (squeeze_of pool.old st work.old j).1) × (work.new ≡ (squeeze_of pool.old st work.old j).2)) }
-{
-    let p = insert_whole(pool, st, work, j, 0, 0);
-    areas::set_row_len(work, j, p.n);
-    p.state
+impl Lent<'_, '_> {
+    // The slots of node i of row j.
+    pub fn count(&self, j: Row, i: usize) -> usize
+        requires { i < 62 }
+        ensures { result ≡ count_of self.now.pool.words.now (item_of self.now.area.words.now j.at i) }
+    {
+        blocks::count(self.pool.words(), self.area.item(j, i))
+    }
+
+    // The full nodes of row j from k on, before the first that is not full, and before node end.
+    #[tactic(auto, using(crate::specs::Packs::lead_at, crate::specs::Packs::lead_end))]
+    fn leading(&self, j: Row, k: InRow, end: InRow) -> InRow
+        ensures full { result.at ≡ lead_from self.now.pool.words.now self.now.area.words.now j.at (end.at - k.at) k.at }
+        ensures low { k.at ≤ result.at }
+        ensures high { result.at ≤ max k.at end.at }
+    {
+        for at in k.at..end.at {
+            if self.count(j, at) != 32 {
+                return InRow { at };
+            }
+        }
+        InRow {
+            at: k.at.max(end.at),
+        }
+    }
+
+    // Lays the slots of row j's nodes from k on flat, with a gap of c from q on. Where they end.
+    fn pour_out(&mut self, j: Row, k: InRow, q: usize, c: Raised) -> FlatSlots
+        ensures end { result.at ≡ (pour_out self.old.pool.words.now self.old.area.words.now j.at k.at q c.at).0 }
+        ensures lent { Holds self.old self.new self.old.pool.state self.old.pool.words.now (pour_out self.old.pool.words.now self.old.area.words.now j.at k.at q c.at).1 }
+    {
+        let mut t = past_gap(FlatSlots { at: 0 }, q, c);
+        'nodes: for i in k.at..self.area.row_len(j).at {
+            let b = self.area.item(j, i);
+            let m = blocks::count(self.pool.words(), b);
+            for at in 0..32 {
+                if m <= at {
+                    continue 'nodes;
+                }
+                let x = blocks::slot(self.pool.words(), b, Slot { at });
+                self.area.put(FLAT + t, x);
+                t = past_gap(FlatSlots { at: t + 1 }, q, c);
+            }
+        }
+        FlatSlots { at: t }
+    }
+
+    // A block for a node: the row's node i, or a free one.
+    #[tactic(auto, unfolding(crate::specs::Packs::block_for))]
+    fn block_for(&mut self, j: Row, i: usize) -> usize
+        ensures block { result ≡ (on block_for self.old j.at i).block }
+        ensures lent { Holds self.old self.new (on block_for self.old j.at i).state self.old.pool.words.now self.old.area.words.now }
+    {
+        if i < self.area.row_len(j).at {
+            return self.area.item(j, i);
+        }
+        self.pool.alloc()
+    }
+
+    // Makes block b a node of height j of the m flat slots from t on.
+    #[tactic(auto, unfolding(crate::specs::Packs::write_node))]
+    fn write_node(&mut self, b: usize, t: FlatSlots, m: Count, j: Row)
+        ensures { Holds self.old self.new self.old.pool.state (write_node self.old.pool.words.now self.old.area.words.now b t.at m.at j.at) self.old.area.words.now }
+    {
+        if let Some(src) = self.area.flat(t, m) {
+            fill_node(&mut self.pool, b, src, m, j);
+        }
+    }
+
+    // Pours so many flat slots into the row's nodes from k on, and new ones after them; they go up after the first out.
+    #[tactic(auto, using(crate::specs::Packs::pour_at, crate::specs::Packs::pour_end), unfolding(crate::specs::Packs::pour_in))]
+    fn pour_in(&mut self, j: Row, k: InRow, total: FlatSlots, out: Rising) -> usize
+        ensures { Packs self.old self.new result (on pour_in self.old j.at k.at total.at out.at) }
+    {
+        let n = total.at.div_ceil(32);
+        for i in 0..n {
+            let b = self.block_for(j, k.at + i);
+            let m = Count {
+                at: (total.at - i * 32).min(32),
+            };
+            self.write_node(b, FlatSlots { at: i * 32 }, m, j);
+            self.area.put(NODES + out.at + i, b as u64);
+        }
+        out.at + n
+    }
+
+    // Releases the nodes of row j from k on.
+    #[tactic(auto, using(crate::specs::Packs::release_at, crate::specs::Packs::release_end), unfolding(crate::specs::Packs::release_items))]
+    fn release_items(&mut self, j: Row, k: usize)
+        ensures { Holds self.old self.new (on release_items self.old j.at k).0 (on release_items self.old j.at k).1 self.old.area.words.now }
+    {
+        for i in k..self.area.row_len(j).at {
+            let b = self.area.item(j, i);
+            self.pool.release(b);
+        }
+    }
+
+    // Pours so many flat slots as above, after what is left over of the row's nodes was released.
+    #[tactic(auto, unfolding(crate::specs::Packs::pour_of))]
+    fn pour(&mut self, j: Row, k: InRow, total: FlatSlots, out: Rising) -> usize
+        ensures { Packs self.old self.new result (on pour_of self.old j.at k.at total.at out.at) }
+    {
+        self.release_items(j, k.at + total.at.div_ceil(32));
+        self.pour_in(j, k, total, out)
+    }
+
+    // The first k nodes of row j go up, and after them new nodes of the c from below.
+    #[tactic(auto, unfolding(crate::specs::Packs::raise_nodes))]
+    fn raise_nodes(&mut self, j: Row, k: InRow, c: Raised)
+        ensures { Becomes self.old self.new (on raise_nodes self.old j.at k.at c.at) }
+    {
+        let n = self.area.row_len(j);
+        self.area.lay_nodes(0, c);
+        self.area.keep(j, 0, k, Rising { at: 0 });
+        self.pour_in(j, n, FlatSlots { at: c.at }, Rising { at: k.at });
+    }
+
+    // The nodes k..l of row j go up after the first out, and after them what the others are poured into.
+    #[tactic(auto, unfolding(crate::specs::Packs::raise_rest))]
+    fn raise_rest(&mut self, j: Row, k: InRow, l: InRow, out: Raised) -> usize
+        requires { k.at ≤ l.at }
+        ensures { Packs self.old self.new result (on raise_rest self.old j.at k.at l.at out.at) }
+    {
+        self.area.keep(j, k.at, l, Rising { at: out.at });
+        let t = self.pour_out(j, l, 0, Raised { at: 0 });
+        let kept = out.at + (l.at - k.at);
+        self.pour(j, l, t, Rising { at: kept })
+    }
+
+    // The c nodes from below go whole between the first k nodes of row j and the others, of which full ones stay whole.
+    #[tactic(auto, unfolding(crate::specs::Packs::insert_whole))]
+    fn insert_whole(&mut self, j: Row, k: InRow, c: Raised) -> usize
+        ensures { Packs self.old self.new result (on insert_whole self.old j.at k.at c.at) }
+    {
+        let l = self.leading(j, k, self.area.row_len(j));
+        self.raise_nodes(j, k, c);
+        let out = k.at + c.at.div_ceil(32);
+        self.raise_rest(j, k, l, Raised { at: out })
+    }
+
+    // The c nodes from below go between the slots, q after those of the first k nodes of row j, and all from there on is poured.
+    #[tactic(auto, unfolding(crate::specs::Packs::insert_poured))]
+    fn insert_poured(&mut self, j: Row, k: InRow, q: usize, c: Raised) -> usize
+        requires { q ≤ 2048 }
+        ensures { Packs self.old self.new result (on insert_poured self.old j.at k.at q c.at) }
+    {
+        self.area.lay_nodes(q, c);
+        let t = self.pour_out(j, k, q, c);
+        self.area.keep(j, 0, k, Rising { at: 0 });
+        self.pour(j, k, t, Rising { at: k.at })
+    }
+
+    // Puts the first nodes from below, c of them and 64 at most, at the place of row j. The nodes of that height go up.
+    #[tactic(auto, unfolding(crate::specs::Packs::insert_of))]
+    pub fn insert(&mut self, j: Row, c: usize) -> usize
+        ensures { Packs self.old self.new result (on insert_of self.old j.at c) }
+    {
+        let d = Raised { at: c.min(64) };
+        let p = self.area.row_place(j);
+        let end = InRow {
+            at: self.area.row_len(j).at.min(p / 32),
+        };
+        let k = self.leading(j, InRow { at: 0 }, end);
+        if stays_whole(k, p, d) {
+            return self.insert_whole(j, k, d);
+        }
+        self.insert_poured(j, k, p - k.at * 32, d)
+    }
+
+    // Packs the nodes of row j: full ones at the start stay whole, the others are poured.
+    #[tactic(auto, unfolding(crate::specs::Packs::squeeze_of))]
+    pub fn squeeze(&mut self, j: Row)
+        ensures { Becomes self.old self.new (on squeeze_of self.old j.at) }
+    {
+        let n = self.insert_whole(j, InRow { at: 0 }, Raised { at: 0 });
+        self.area.set_row_len(j, n);
+    }
 }

@@ -1,17 +1,23 @@
 // The two spines along which trees meet: the left tree's goes down last children, the right tree's down first children.
-ghost use Rattle.std.specs.Prelude.{◌≡◌, ◌≤◌, max};
-ghost use Rattle.merging.specs.Spines.{hangs_at, pair_of, left_others, others_of, below_of};
+ghost use Rattle.std.specs.Prelude.{◌≡◌};
+ghost use Rattle.merging.specs.Spines.{hangs_at, pair_of, left_others, right_others, others_of, below_of};
 
-use crate::areas;
+use levels::Slot;
 use rrbtree::{Room, Tree};
 
-// A spine node's block, the height of the tree's root, and the height of the node below which the left tree's short tail hangs (0: none).
+// The left tree's spine, with the height of the node below which its short tail hangs (0: none); or the right tree's.
+#[derive(Clone, Copy)]
+pub enum Side {
+    Left(usize),
+    Right,
+}
+
+// A spine node's block, and the height of the tree's root.
 #[derive(Clone, Copy)]
 pub struct Spine {
     pub block: usize,
     pub height: usize,
-    pub stop: usize,
-    pub right: bool,
+    pub side: Side,
 }
 
 // The two spines of a merge, and the height where they are joined, 48 at most.
@@ -22,112 +28,109 @@ pub struct Pair {
     pub top: usize,
 }
 
-// The nodes beside a spine: none; the children from..to of a spine node; or the whole left tree, below a root that is still to come.
+// The nodes beside a spine: the children from..to of a spine node; or the whole left tree, below a root that is still to come.
 #[derive(Clone, Copy)]
 pub enum Others {
-    None,
     Kids(usize, usize, usize),
     Only(usize),
 }
 
-fn higher(a: usize, b: usize) -> usize
-    ensures { result ≡ max a b }
-{
-    if a < b {
-        return b;
-    }
-    a
-}
-
 // The height of the node below which a tail of so many elements hangs.
+#[tactic(auto, unfolding(crate::specs::Spines::hangs_at))]
 fn hangs(pool: &[u64], t: Tree, tail: usize) -> usize
     ensures { result ≡ hangs_at pool.now t tail }
 {
     if tail == 0 {
         return 0;
     }
-    let shift = t.shift;
     match rrbtree::has_enough_capacity(pool, t) {
         Room::Root => 0,
         Room::At(level) => level,
-        Room::Above => shift.height() + 1,
+        Room::Above => t.shift.height() + 1,
     }
 }
 
 // The spines of the receiver, with a tail of so many elements, and of the giver.
+#[tactic(auto, unfolding(crate::specs::Spines::pair_of))]
 pub fn pair_of(pool: &[u64], a: Tree, tail: usize, g: Tree) -> Pair
     ensures { result ≡ pair_of pool.now a tail g }
 {
     let stop = hangs(pool, a, tail);
-    let left_shift = a.shift;
-    let right_shift = g.shift;
-    let h = left_shift.height();
-    let k = right_shift.height();
-    let l = Spine {
+    let left = Spine {
         block: a.root,
-        height: h,
-        stop: stop,
-        right: false,
+        height: a.shift.height(),
+        side: Side::Left(stop),
     };
-    let r = Spine {
+    let right = Spine {
         block: g.root,
-        height: k,
-        stop: 0,
-        right: true,
+        height: g.shift.height(),
+        side: Side::Right,
     };
     Pair {
-        left: l,
-        right: r,
-        top: areas::least(higher(higher(h, stop), k), 48),
+        left,
+        right,
+        top: left.height.max(stop).max(right.height).min(48),
     }
 }
 
-fn left_others(pool: &[u64], s: Spine, j: usize) -> Others
-    ensures { result ≡ left_others pool.now s j }
-{
-    let b = s.block;
-    if j < s.stop {
-        return Others::None;
-    }
-    if s.height < j {
-        if j == s.stop {
-            return Others::Only(b);
+impl Spine {
+    // Below the height where the tail hangs nothing stands beside the left tree's spine; at that height all children do.
+    #[tactic(auto, unfolding(crate::specs::Spines::left_others))]
+    fn left_others(self, pool: &[u64], stop: usize, j: usize) -> Option<Others>
+        ensures { result ≡ left_others pool.now self.block self.height stop j }
+    {
+        let b = self.block;
+        if j < stop {
+            return None;
         }
-        return Others::None;
-    }
-    if j == s.stop {
-        return Others::Kids(b, 0, blocks::count(pool, b));
-    }
-    Others::Kids(b, 0, blocks::last(pool, b))
-}
-
-// What stands beside a spine below its node at height j.
-pub fn beside(pool: &[u64], s: Spine, j: usize) -> Others
-    ensures { result ≡ others_of pool.now s j }
-{
-    let b = s.block;
-    if s.right {
-        if s.height < j {
-            return Others::None;
+        if self.height < j {
+            if j == stop {
+                return Some(Others::Only(b));
+            }
+            return None;
         }
-        return Others::Kids(b, 1, blocks::count(pool, b));
+        if j == stop {
+            return Some(Others::Kids(b, 0, blocks::count(pool, b)));
+        }
+        Some(Others::Kids(b, 0, blocks::last(pool, b).at))
     }
-    left_others(pool, s, j)
-}
 
-// The spine one level below height j.
-pub fn below(pool: &[u64], s: Spine, j: usize) -> Spine
-    ensures { result ≡ below_of pool.now s j }
-{
-    let b = s.block;
-    let mut out = s;
-    if s.height < j {
-        return out;
+    #[tactic(auto, unfolding(crate::specs::Spines::right_others))]
+    fn right_others(self, pool: &[u64], j: usize) -> Option<Others>
+        ensures { result ≡ right_others pool.now self.block self.height j }
+    {
+        if self.height < j {
+            return None;
+        }
+        Some(Others::Kids(self.block, 1, blocks::count(pool, self.block)))
     }
-    if s.right {
-        out.block = blocks::child(pool, b, 0);
-        return out;
+
+    // What stands beside the spine below its node at height j.
+    #[tactic(auto, unfolding(crate::specs::Spines::others_of))]
+    pub fn beside(self, pool: &[u64], j: usize) -> Option<Others>
+        ensures { result ≡ others_of pool.now self j }
+    {
+        match self.side {
+            Side::Left(stop) => self.left_others(pool, stop, j),
+            Side::Right => self.right_others(pool, j),
+        }
     }
-    out.block = blocks::child(pool, b, blocks::last(pool, b));
-    out
+
+    // The spine one level below height j.
+    #[tactic(auto, unfolding(crate::specs::Spines::below_of))]
+    pub fn below(self, pool: &[u64], j: usize) -> Self
+        ensures { result ≡ below_of pool.now self j }
+    {
+        if self.height < j {
+            return self;
+        }
+        let i = match self.side {
+            Side::Left(_) => blocks::last(pool, self.block),
+            Side::Right => Slot { at: 0 },
+        };
+        Spine {
+            block: blocks::child(pool, self.block, i),
+            ..self
+        }
+    }
 }

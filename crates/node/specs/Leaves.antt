@@ -1,10 +1,10 @@
 -- Leaves, on the words of a pool.
 use Rattle.std.specs.Prelude.{◌≡◌, ℕ, zero, suc, ◌+◌, ◌-◌, ◌*◌, ◌/◌, ◌<◌, ◌≤◌, List, [], ◌∷◌, ◌++◌, length, take, drop, replicate, slice_set, refl}
-use Rattle.std.proofs.Common.{sym, ◌∙◌, ap, append_assoc, add-one, arith, lt-ltb, le-ltb, length-set, take-append-drop, drop-drop}
+use Rattle.std.proofs.Common.{sym, ◌∙◌, ap, append_assoc, add-one, arith, lt-ltb, le-ltb, length-set, take-append-drop, drop-drop, drop-cons}
 use borrow.Rule.Slice.PartMut.{mid_of, post_of, put_mid, mid_len}
 use Rattle.std.proofs.lemmas.List.Edits.{sets, sets-eq}
 use Rattle.std.proofs.lemmas.List.{set_at, drop-append-le}
-use Rattle.blocks.specs.Words.{put_of, count_of, slot_of}
+use Rattle.blocks.specs.Words.{word_of, put_of, count_of, slot_of}
 
 -- the words of xs as the words of block b from word j on
 unfoldable pub store_of : List ℕ → ℕ → ℕ → List ℕ → List ℕ
@@ -37,6 +37,20 @@ pub length-slots : (ws : List ℕ) (b i n : ℕ) → length (slots_from ws b i n
 unfolding slots_from
 length-slots ws b i zero = refl
 length-slots ws b i (suc n) = ap suc (length-slots ws b (suc i) n)
+
+-- the slots of a block stand one after the other in the pool; where there is no block, none is in use
+pub slots_in : (ws : List ℕ) (b i n : ℕ) → b < length ws / 66 → i + n ≤ 32 → slots_from ws b i n ≡ take n (drop (b * 66 + (2 + i)) ws)
+unfolding slots_from word_of
+slots_in ws b i zero h l = refl
+slots_in ws b i (suc n) h l =
+    let p = b * 66 + (2 + i) in
+    let q : p < length ws = omega arith in
+    let e : b * 66 + (2 + suc i) ≡ suc p = omega arith in
+    rw (lt-ltb _ _ h, slots_in ws b (suc i) n h (omega arith), e, drop-cons ws p 0 q)
+
+pub slots_out : (ws : List ℕ) (b : ℕ) → length ws / 66 ≤ b → slots_from ws b 0 (count_of ws b) ≡ []
+unfolding slots_from word_of
+slots_out ws b h = rw (le-ltb _ _ h)
 
 pub taken_more : (ws : List ℕ) (b i : ℕ) → i < 32
     → slice_set (slots_from ws b 0 i ++ replicate (32 - i) 0) i (slot_of ws b i) ≡ slots_from ws b 0 (i + 1) ++ replicate (32 - (i + 1)) 0

@@ -1,9 +1,10 @@
 // Leaves: the 32 element words of a block are lent on as a part of the pool.
 ghost use Rattle.std.specs.Prelude.{◌≡◌, ◌≤◌, length, slice_set};
 ghost use Rattle.std.proofs.lemmas.List.Edits.{sets};
+ghost use Rattle.blocks.specs.Words.{count_of};
 ghost use Rattle.blocks.specs.Chain.{alloc_of};
 ghost use Rattle.blocks.specs.Pools.{on, Gives};
-ghost use Rattle.node.specs.Leaves.{store_of, leaf_of, take_of};
+ghost use Rattle.node.specs.Leaves.{slots_from, store_of, leaf_of, take_of};
 
 use blocks::{Field, Kind, Pool};
 use levels::{Count, Slot};
@@ -55,6 +56,18 @@ pub fn leaf_new(pool: &mut Pool<'_>, src: Slots<'_>) -> usize
     pool.put(b, Field::Kind, Kind::Leaf.into());
     pool.put(b, Field::Count, src.words.len() as u64);
     b
+}
+
+// The slots in use of block b.
+#[tactic(auto, using(crate::specs::Leaves::slots_in, crate::specs::Leaves::slots_out))]
+pub fn in_use(pool: &[u64], b: usize) -> &[u64]
+    ensures { result.now ≡ slots_from pool.now b 0 (count_of pool.now b) }
+{
+    if b < blocks::total(pool) {
+        let start = b * blocks::WORDS + blocks::SLOTS;
+        return &pool[start..start + blocks::count(pool, b)];
+    }
+    &[]
 }
 
 // The elements of a leaf, and zeros after them.

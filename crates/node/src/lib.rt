@@ -7,4 +7,4 @@ mod leaves;
 
 pub use branches::{before, first_above, less_kid, link, more_kid, over, pair};
 pub use builds::build;
-pub use leaves::{Slots, leaf_add, leaf_merge, leaf_new, leaf_take, slots_fill};
+pub use leaves::{Slots, in_use, leaf_add, leaf_merge, leaf_new, leaf_take, slots_fill};

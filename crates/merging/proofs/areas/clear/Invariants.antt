@@ -1,9 +1,0 @@
--- `merging::areas::clear`: after i turns the first i words are zero and the rest is as it was.
-use Rattle.std.proofs.Common.{◌≡◌, ◌-◌, ◌≤◌, ◌++◌, length, drop, replicate}
-use Rattle.merging.proofs.areas.clear.Given as goal
-
-abbrev pub invariant-loop-i : goal.invariant-loop-i
-invariant-loop-i l = (l.i ≤ length l.initial.work) × (length l.work ≡ length l.initial.work) × (l.work ≡ replicate l.i 0 ++ drop l.i l.initial.work)
-
-abbrev pub decreases-loop-i : goal.decreases-loop-i
-decreases-loop-i l = length l.initial.work - l.i
