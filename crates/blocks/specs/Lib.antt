@@ -2,3 +2,4 @@ pub mod Words
 pub mod Fields
 pub mod Chain
 pub mod Pools
+pub mod Views

@@ -3,15 +3,16 @@
 
 mod fields;
 mod pools;
+mod views;
 
-ghost use Rattle.std.specs.Prelude.{◌≡◌, ◌/◌, ◌==◌, length};
-ghost use Rattle.blocks.specs.Words.{word_of, put_of, kind_of, count_of, last_of, slot_of, size_of};
-ghost use Rattle.blocks.specs.Fields.{place_of, kind_at};
+ghost use Rattle.std.specs.Prelude.{◌≡◌, ◌/◌, length};
+ghost use Rattle.blocks.specs.Words.{put_of};
+ghost use Rattle.blocks.specs.Fields.{place_of};
 ghost use Rattle.blocks.specs.Chain.{chained_of, free_count_of};
 
 pub use fields::{Field, Kind};
-use levels::Slot;
 pub use pools::Pool;
+pub use views::Block;
 
 // The words of a block: its kind, its count, 32 children or elements, 32 sizes.
 pub const WORDS: usize = 66;
@@ -39,16 +40,6 @@ pub fn total(pool: &[u64]) -> usize
     pool.len() / WORDS
 }
 
-// A word of block b; 0 where there is no such block.
-pub fn word(pool: &[u64], b: usize, f: Field) -> u64
-    ensures { result ≡ word_of pool.now b (place_of f) }
-{
-    if b < pool.len() / WORDS {
-        return pool[b * WORDS + f.place()];
-    }
-    0
-}
-
 // Stores a word of block b; where there is no such block nothing.
 pub fn put(pool: &mut [u64], b: usize, f: Field, x: u64)
     ensures { pool.new ≡ put_of pool.old b (place_of f) x }
@@ -56,53 +47,6 @@ pub fn put(pool: &mut [u64], b: usize, f: Field, x: u64)
     if b < pool.len() / WORDS {
         pool[b * WORDS + f.place()] = x;
     }
-}
-
-pub fn kind(pool: &[u64], b: usize) -> Kind
-    ensures { result ≡ kind_at (kind_of pool.now b) }
-{
-    Kind::from(word(pool, b, Field::Kind))
-}
-
-pub fn is_relaxed(pool: &[u64], b: usize) -> bool
-    ensures { result ≡ (kind_of pool.now b == 3) }
-{
-    kind(pool, b) == Kind::Relaxed
-}
-
-// The slots in use: 32 at most.
-pub fn count(pool: &[u64], b: usize) -> usize
-    ensures { result ≡ count_of pool.now b }
-{
-    (word(pool, b, Field::Count) as usize).min(32)
-}
-
-// The last slot in use.
-pub fn last(pool: &[u64], b: usize) -> Slot
-    ensures { result.at ≡ last_of pool.now b }
-{
-    Slot {
-        at: count(pool, b).saturating_sub(1),
-    }
-}
-
-pub fn slot(pool: &[u64], b: usize, i: Slot) -> u64
-    ensures { result ≡ slot_of pool.now b i.at }
-{
-    word(pool, b, Field::Slot(i))
-}
-
-// The block whose number stands in a slot.
-pub fn child(pool: &[u64], b: usize, i: Slot) -> usize
-    ensures { result ≡ slot_of pool.now b i.at }
-{
-    slot(pool, b, i) as usize
-}
-
-pub fn size(pool: &[u64], b: usize, i: Slot) -> usize
-    ensures { result ≡ size_of pool.now b i.at }
-{
-    word(pool, b, Field::Size(i)) as usize
 }
 
 // Puts all blocks on the chain, in order.
@@ -125,7 +69,7 @@ pub fn free_count(pool: &[u64], st: State) -> usize
         if n <= b {
             return k;
         }
-        b = word(pool, b, Field::Count) as usize;
+        b = Block::new(pool, b).word(Field::Count) as usize;
     }
     n
 }

@@ -5,7 +5,7 @@ ghost use Rattle.blocks.specs.Fields.{place_of};
 ghost use Rattle.blocks.specs.Chain.{alloc_of, on_chain, release_of};
 ghost use Rattle.blocks.specs.Pools.{on, Leaves, Gives};
 
-use crate::{Field, Kind, State};
+use crate::{Block, Field, Kind, State};
 
 // The words of a lent pool, and its state record.
 #[derive(Drop)]
@@ -21,6 +21,13 @@ impl Pool<'_> {
         self.words
     }
 
+    pub fn block(&self, number: usize) -> Block<'_>
+        ensures pool { result.pool.now ≡ self.now.words.now }
+        ensures number { result.number ≡ number }
+    {
+        Block::new(self.words, number)
+    }
+
     // Stores a word of block b.
     pub fn put(&mut self, b: usize, f: Field, x: u64)
         ensures { Leaves self.old self.new self.old.state (put_of self.old.words.now b (place_of f) x) }
@@ -34,7 +41,7 @@ impl Pool<'_> {
         ensures { Gives self.old self.new result (on alloc_of self.old, self.old.words.now) }
     {
         let b = self.state.free as usize;
-        self.state.free = crate::word(self.words(), b, Field::Count);
+        self.state.free = self.block(b).word(Field::Count);
         b
     }
 

@@ -24,7 +24,7 @@ impl Lent<'_, '_> {
         ensures { Holds self.old self.new self.old.pool.state self.old.pool.words.now (add_items self.old.pool.words.now self.old.area.words.now j.at b from to) }
     {
         for at in from..to.min(32) {
-            let kid = blocks::child(self.pool.words(), b, Slot { at });
+            let kid = self.pool.block(b).child(Slot { at }).number;
             self.area.add_item(j, kid);
         }
     }
@@ -74,7 +74,7 @@ impl Lent<'_, '_> {
     fn lift_leaf(&mut self, b: usize, out: Count)
         ensures { Holds self.old self.new self.old.pool.state self.old.pool.words.now (lift_leaf self.old.pool.words.now self.old.area.words.now b out.at) }
     {
-        self.area.lift(node::in_use(self.pool.words(), b), out);
+        self.area.lift(node::in_use(self.pool.block(b)), out);
     }
 
     // The elements of the two leaves that meet go up; a tail stands for the left one.
@@ -83,14 +83,14 @@ impl Lent<'_, '_> {
         ensures { Packs self.old self.new result (on lift_leaves self.old tail.entry.words.now l r) }
     {
         let t = tail.words.len();
-        let n = blocks::count(self.pool.words(), r);
+        let n = self.pool.block(r).count();
         if 0 < t {
             self.area.lift(tail.words, Count { at: 0 });
             self.lift_leaf(r, Count { at: t });
             self.pool.release(r);
             return t + n;
         }
-        let m = blocks::count(self.pool.words(), l);
+        let m = self.pool.block(l).count();
         self.lift_leaf(l, Count { at: 0 });
         self.lift_leaf(r, Count { at: m });
         self.pool.release(l);

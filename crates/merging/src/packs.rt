@@ -48,7 +48,7 @@ impl Lent<'_, '_> {
         requires { i < 62 }
         ensures { result ≡ count_of self.now.pool.words.now (item_of self.now.area.words.now j.at i) }
     {
-        blocks::count(self.pool.words(), self.area.item(j, i))
+        self.pool.block(self.area.item(j, i)).count()
     }
 
     // The full nodes of row j from k on, before the first that is not full, and before node end.
@@ -76,12 +76,12 @@ impl Lent<'_, '_> {
         let mut t = past_gap(FlatSlots { at: 0 }, q, c);
         'nodes: for i in k.at..self.area.row_len(j).at {
             let b = self.area.item(j, i);
-            let m = blocks::count(self.pool.words(), b);
+            let m = self.pool.block(b).count();
             for at in 0..32 {
                 if m <= at {
                     continue 'nodes;
                 }
-                let x = blocks::slot(self.pool.words(), b, Slot { at });
+                let x = self.pool.block(b).slot(Slot { at });
                 self.area.put(FLAT + t, x);
                 t = past_gap(FlatSlots { at: t + 1 }, q, c);
             }

@@ -1,9 +1,11 @@
 // Held after a merge, from counts alone: no word changes.
 ghost use Rattle.std.specs.Prelude.{◌≡◌};
+ghost use Rattle.blocks.specs.Views.{read};
 ghost use Rattle.merging.specs.Plans.{counts_of, with_others, packed_of, plan_leaves, plan_level, held_after};
 
 use crate::Pair;
 use crate::spines::{Others, Spine};
+use blocks::Block;
 use levels::Slot;
 
 // The nodes or elements that go up to the next height, the nodes that the merge makes, and those that it takes apart or packs anew.
@@ -16,12 +18,12 @@ pub struct Plan {
 
 // The counts of the children from..to of b.
 #[tactic(auto, using(crate::specs::Plans::counts_at, crate::specs::Plans::counts_end), unfolding(crate::specs::Plans::counts_of))]
-fn counts(pool: &[u64], b: usize, from: usize, to: usize) -> usize
-    ensures { result ≡ counts_of pool.now b from to }
+fn counts(b: Block<'_>, from: usize, to: usize) -> usize
+    ensures { result ≡ read counts_of b.entry from to }
 {
     let mut sum: usize = 0;
     for at in from..to.min(32) {
-        sum = sum.wrapping_add(blocks::count(pool, blocks::child(pool, b, Slot { at })));
+        sum = sum.wrapping_add(b.child(Slot { at }).count());
     }
     sum
 }
@@ -35,14 +37,16 @@ impl Plan {
         match o {
             None => self,
             Some(Others::Kids(b, from, to)) => Plan {
-                slots: self.slots.wrapping_add(counts(pool, b, from, to)),
+                slots: self
+                    .slots
+                    .wrapping_add(counts(Block::new(pool, b), from, to)),
                 gone: self
                     .gone
                     .wrapping_add(to.saturating_sub(from).wrapping_add(1)),
                 ..self
             },
             Some(Others::Only(b)) => Plan {
-                slots: self.slots.wrapping_add(blocks::count(pool, b)),
+                slots: self.slots.wrapping_add(Block::new(pool, b).count()),
                 gone: self.gone.wrapping_add(1),
                 ..self
             },
@@ -67,7 +71,7 @@ impl Plan {
     fn leaves(pool: &[u64], l: Spine, tail: usize, r: Spine) -> Self
         ensures { result ≡ plan_leaves pool.now l tail r }
     {
-        let n = blocks::count(pool, r.block);
+        let n = Block::new(pool, r.block).count();
         if 0 < tail {
             return Plan {
                 slots: tail.wrapping_add(n),
@@ -76,7 +80,7 @@ impl Plan {
             };
         }
         Plan {
-            slots: blocks::count(pool, l.block).wrapping_add(n),
+            slots: Block::new(pool, l.block).count().wrapping_add(n),
             made: 0,
             gone: 2,
         }

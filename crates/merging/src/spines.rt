@@ -2,6 +2,7 @@
 ghost use Rattle.std.specs.Prelude.{◌≡◌};
 ghost use Rattle.merging.specs.Spines.{hangs_at, pair_of, left_others, right_others, others_of, below_of};
 
+use blocks::Block;
 use levels::Slot;
 use rrbtree::{Room, Tree};
 
@@ -90,9 +91,9 @@ impl Spine {
             return None;
         }
         if j == stop {
-            return Some(Others::Kids(b, 0, blocks::count(pool, b)));
+            return Some(Others::Kids(b, 0, Block::new(pool, b).count()));
         }
-        Some(Others::Kids(b, 0, blocks::last(pool, b).at))
+        Some(Others::Kids(b, 0, Block::new(pool, b).last().at))
     }
 
     #[tactic(auto, unfolding(crate::specs::Spines::right_others))]
@@ -102,7 +103,7 @@ impl Spine {
         if self.height < j {
             return None;
         }
-        Some(Others::Kids(self.block, 1, blocks::count(pool, self.block)))
+        Some(Others::Kids(self.block, 1, Block::new(pool, self.block).count()))
     }
 
     // What stands beside the spine below its node at height j.
@@ -124,12 +125,13 @@ impl Spine {
         if self.height < j {
             return self;
         }
+        let node = Block::new(pool, self.block);
         let i = match self.side {
-            Side::Left(_) => blocks::last(pool, self.block),
+            Side::Left(_) => node.last(),
             Side::Right => Slot { at: 0 },
         };
         Spine {
-            block: blocks::child(pool, self.block, i),
+            block: node.child(i).number,
             ..self
         }
     }

@@ -1,20 +1,21 @@
 // Branches: children and size tables.
 ghost use Rattle.std.specs.Prelude.{◌≡◌};
 ghost use Rattle.blocks.specs.Chain.{alloc_of};
+ghost use Rattle.blocks.specs.Views.{read};
 ghost use Rattle.blocks.specs.Pools.{on, Gives};
 ghost use Rattle.node.specs.Branches.{above_of, before_of, link_of, more_kid, less_kid, over_of, pair_of};
 
-use blocks::{Field, Kind, Pool};
+use blocks::{Block, Field, Kind, Pool};
 use levels::{Count, Index, Shift, Slot};
 
 // The first slot whose size entry exceeds the place; the last slot where there is none. No entry before the first one tried can.
 #[tactic(auto, using(crate::specs::Branches::first_at, crate::specs::Branches::first_end), unfolding(crate::specs::Branches::above_of))]
-pub fn first_above(pool: &[u64], b: usize, shift: Shift, place: Index) -> Slot
-    ensures { result.at ≡ above_of pool.now b shift.0 place.0 }
+pub fn first_above(b: Block<'_>, shift: Shift, place: Index) -> Slot
+    ensures { result.at ≡ read above_of b.entry shift.0 place.0 }
 {
     for at in place.child(shift).at..31 {
         let i = Slot { at };
-        if place.0 < blocks::size(pool, b, i) {
+        if place.0 < b.size(i) {
             return i;
         }
     }
@@ -23,11 +24,11 @@ pub fn first_above(pool: &[u64], b: usize, shift: Shift, place: Index) -> Slot
 
 // The elements before slot i, by the size table.
 #[tactic(auto, unfolding(crate::specs::Branches::before_of))]
-pub fn before(pool: &[u64], b: usize, i: Count) -> usize
-    ensures { result ≡ before_of pool.now b i.at }
+pub fn before(b: Block<'_>, i: Count) -> usize
+    ensures { result ≡ read before_of b.entry i.at }
 {
     if 0 < i.at {
-        return blocks::size(pool, b, Slot { at: i.at - 1 });
+        return b.size(Slot { at: i.at - 1 });
     }
     0
 }
@@ -37,8 +38,9 @@ pub fn before(pool: &[u64], b: usize, i: Count) -> usize
 pub fn link(pool: &mut [u64], b: usize, n: Slot, k: usize, len: usize)
     ensures { pool.new ≡ link_of pool.old b n.at k len }
 {
-    let relaxed = blocks::is_relaxed(pool, b);
-    let sum = before(pool, b, n.before()).wrapping_add(len);
+    let branch = Block::new(pool, b);
+    let relaxed = branch.is_relaxed();
+    let sum = before(branch, n.before()).wrapping_add(len);
     blocks::put(pool, b, Field::Slot(n), k as u64);
     blocks::put(pool, b, Field::Count, (n.at + 1) as u64);
     if relaxed {
@@ -51,8 +53,9 @@ pub fn link(pool: &mut [u64], b: usize, n: Slot, k: usize, len: usize)
 pub fn more_kid(pool: &mut [u64], b: usize, i: Slot, len: usize)
     ensures { pool.new ≡ more_kid pool.old b i.at len }
 {
-    if blocks::is_relaxed(pool, b) {
-        let sum = blocks::size(pool, b, i).wrapping_add(len);
+    let branch = Block::new(pool, b);
+    if branch.is_relaxed() {
+        let sum = branch.size(i).wrapping_add(len);
         blocks::put(pool, b, Field::Size(i), sum as u64);
     }
 }
@@ -62,7 +65,7 @@ pub fn more_kid(pool: &mut [u64], b: usize, i: Slot, len: usize)
 pub fn less_kid(pool: &mut [u64], b: usize, i: Slot, len: usize)
     ensures { pool.new ≡ less_kid pool.old b i.at len }
 {
-    let left = blocks::size(pool, b, i).saturating_sub(len);
+    let left = Block::new(pool, b).size(i).saturating_sub(len);
     blocks::put(pool, b, Field::Size(i), left as u64);
 }
 
@@ -83,7 +86,7 @@ pub fn over(pool: &mut Pool<'_>, k: usize) -> usize
 pub fn pair(pool: &mut Pool<'_>, k: usize, len: usize) -> usize
     ensures { Gives pool.old pool.new result (on alloc_of pool.old, pair_of pool.old.words.now pool.old.state.free k len) }
 {
-    let relaxed = blocks::is_relaxed(pool.words(), k);
+    let relaxed = pool.block(k).is_relaxed();
     let b = over(pool, k);
     if relaxed {
         pool.put(b, Field::Kind, Kind::Relaxed.into());

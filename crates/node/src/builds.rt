@@ -1,8 +1,9 @@
 // The branch builder: kind, count and sizes of a node whose slots are set.
 ghost use Rattle.std.specs.Prelude.{◌≡◌, ◌<◌, ◌≤◌};
+ghost use Rattle.blocks.specs.Views.{read};
 ghost use Rattle.node.specs.Builds.{dense_part, sub_trie, thin_of, any_thin, sizes_of, built_of};
 
-use blocks::{Field, Kind};
+use blocks::{Block, Field, Kind};
 use levels::{Count, Shift, Slot};
 
 // The elements below i full children of a dense branch at a level, as a word.
@@ -18,41 +19,41 @@ fn dense_part(i: usize, shift: Shift) -> usize
 
 // The elements below block b at a level, worked out through last children.
 #[tactic(auto, using(crate::specs::Builds::sub_at, crate::specs::Builds::sub_leaf))]
-fn size_sub_trie(pool: &[u64], b: usize, shift: Shift) -> usize
-    ensures { result ≡ sub_trie shift.0 pool.now b shift.0 0 }
+fn size_sub_trie(b: Block<'_>, shift: Shift) -> usize
+    ensures { result ≡ read (sub_trie shift.0) b.entry shift.0 0 }
 {
     let mut at = b;
     let mut s = shift;
     let mut sum: usize = 0;
     loop {
         if s.is_leaf_level() {
-            break sum.wrapping_add(blocks::count(pool, at));
+            break sum.wrapping_add(at.count());
         }
-        let i = blocks::last(pool, at);
-        if blocks::is_relaxed(pool, at) {
-            break sum.wrapping_add(blocks::size(pool, at, i));
+        let i = at.last();
+        if at.is_relaxed() {
+            break sum.wrapping_add(at.size(i));
         }
         sum = sum.wrapping_add(dense_part(i.at, s));
-        at = blocks::child(pool, at, i);
+        at = at.child(i);
         s = s.dec();
     }
 }
 
 // Whether a child makes its branch relaxed: it is relaxed itself, or not full.
 #[tactic(auto, unfolding(crate::specs::Builds::thin_of))]
-fn is_thin(pool: &[u64], b: usize) -> bool
-    ensures { result ≡ thin_of pool.now b }
+fn is_thin(b: Block<'_>) -> bool
+    ensures { result ≡ read thin_of b.entry }
 {
-    blocks::is_relaxed(pool, b) || blocks::count(pool, b) < 32
+    b.is_relaxed() || b.count() < 32
 }
 
 // Whether one of the first n children of b makes it relaxed.
 #[tactic(auto, using(crate::specs::Builds::any_at, crate::specs::Builds::any_end))]
-fn any_thin(pool: &[u64], b: usize, n: Count) -> bool
-    ensures { result ≡ any_thin pool.now b n.at 0 }
+fn any_thin(b: Block<'_>, n: Count) -> bool
+    ensures { result ≡ read any_thin b.entry n.at 0 }
 {
     for at in 0..n.at {
-        if is_thin(pool, blocks::child(pool, b, Slot { at })) {
+        if is_thin(b.child(Slot { at })) {
             return true;
         }
     }
@@ -67,8 +68,8 @@ fn compute_sizes(pool: &mut [u64], b: usize, n: Count, below: Shift)
     let mut sum: usize = 0;
     for at in 0..n.at {
         let i = Slot { at };
-        let k = blocks::child(pool, b, i);
-        sum = sum.wrapping_add(size_sub_trie(pool, k, below));
+        let kid = Block::new(pool, b).child(i);
+        sum = sum.wrapping_add(size_sub_trie(kid, below));
         blocks::put(pool, b, Field::Size(i), sum as u64);
     }
 }
@@ -83,7 +84,7 @@ pub fn build(pool: &mut [u64], b: usize, n: Count, shift: Shift)
         blocks::put(pool, b, Field::Kind, Kind::Leaf.into());
         return;
     }
-    if any_thin(pool, b, n) {
+    if any_thin(Block::new(pool, b), n) {
         blocks::put(pool, b, Field::Kind, Kind::Relaxed.into());
         compute_sizes(pool, b, n, shift.dec());
         return;

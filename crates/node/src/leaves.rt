@@ -3,10 +3,11 @@ ghost use Rattle.std.specs.Prelude.{◌≡◌, ◌≤◌, length, slice_set};
 ghost use Rattle.std.proofs.lemmas.List.Edits.{sets};
 ghost use Rattle.blocks.specs.Words.{count_of};
 ghost use Rattle.blocks.specs.Chain.{alloc_of};
+ghost use Rattle.blocks.specs.Views.{read};
 ghost use Rattle.blocks.specs.Pools.{on, Gives};
 ghost use Rattle.node.specs.Leaves.{slots_from, store_of, leaf_of, take_of};
 
-use blocks::{Field, Kind, Pool};
+use blocks::{Block, Field, Kind, Pool};
 use levels::{Count, Slot};
 
 // Words for the slots of a node.
@@ -60,24 +61,24 @@ pub fn leaf_new(pool: &mut Pool<'_>, src: Slots<'_>) -> usize
 
 // The slots in use of block b.
 #[tactic(auto, using(crate::specs::Leaves::slots_in, crate::specs::Leaves::slots_out))]
-pub fn in_use(pool: &[u64], b: usize) -> &[u64]
-    ensures { result.now ≡ slots_from pool.now b 0 (count_of pool.now b) }
+pub fn in_use<'a>(b: Block<'a>) -> &'a [u64]
+    ensures { result.now ≡ read slots_from b.entry 0 (read count_of b.entry) }
 {
-    if b < blocks::total(pool) {
-        let start = b * blocks::WORDS + blocks::SLOTS;
-        return &pool[start..start + blocks::count(pool, b)];
+    if b.number < blocks::total(b.pool) {
+        let start = b.number * blocks::WORDS + blocks::SLOTS;
+        return &b.pool[start..start + b.count()];
     }
     &[]
 }
 
 // The elements of a leaf, and zeros after them.
 #[tactic(auto, using(crate::specs::Leaves::taken_more), unfolding(crate::specs::Leaves::take_of, crate::specs::Leaves::slots_from))]
-pub fn leaf_take(pool: &[u64], b: usize) -> [u64; 32]
-    ensures { result ≡ take_of pool.now b }
+pub fn leaf_take(b: Block<'_>) -> [u64; 32]
+    ensures { result ≡ read take_of b.entry }
 {
     let mut out = [0u64; 32];
-    for at in 0..blocks::count(pool, b) {
-        out[at] = blocks::slot(pool, b, Slot { at });
+    for at in 0..b.count() {
+        out[at] = b.slot(Slot { at });
     }
     out
 }

@@ -21,9 +21,11 @@ pub struct Taken {
 fn take_leaf(pool: &mut Pool<'_>, b: usize) -> Taken
     ensures { Takes pool.old pool.new result (on take_leaf pool.old b) }
 {
-    let i = blocks::last(pool.words(), b);
-    let leaf = blocks::child(pool.words(), b, i);
-    let len = blocks::count(pool.words(), leaf);
+    let branch = pool.block(b);
+    let i = branch.last();
+    let leaf = branch.child(i);
+    let len = leaf.count();
+    let leaf = leaf.number;
     pool.put(b, Field::Count, i.at as u64);
     Taken {
         leaf,
@@ -54,8 +56,9 @@ fn dense_pop(pool: &mut Pool<'_>, b: usize, shift: Shift) -> Taken
     requires { 5 ≤ shift.0 }
     ensures { Takes pool.old pool.new result (on (branch_pop false ((shift.0 - 5) / 5)) pool.old b) }
 {
-    let i = blocks::last(pool.words(), b);
-    let kid = blocks::child(pool.words(), b, i);
+    let branch = pool.block(b);
+    let i = branch.last();
+    let kid = branch.child(i).number;
     let t = node_pop(pool, kid, shift.dec());
     if t.left == 0 {
         return drop_kid(pool, t, b, i, kid);
@@ -73,7 +76,7 @@ fn relaxed_pop(pool: &mut Pool<'_>, b: usize, shift: Shift) -> Taken
     requires { 5 ≤ shift.0 }
     ensures { Takes pool.old pool.new result (on (branch_pop true ((shift.0 - 5) / 5)) pool.old b) }
 {
-    let i = blocks::last(pool.words(), b);
+    let i = pool.block(b).last();
     let t = dense_pop(pool, b, shift);
     if i.at < t.left {
         node::less_kid(&mut *pool.words, b, i, t.len);
@@ -89,7 +92,7 @@ fn node_pop(pool: &mut Pool<'_>, b: usize, shift: Shift) -> Taken
     if shift.height() < 2 {
         return take_leaf(pool, b);
     }
-    if blocks::is_relaxed(pool.words(), b) {
+    if pool.block(b).is_relaxed() {
         return relaxed_pop(pool, b, shift);
     }
     dense_pop(pool, b, shift)
@@ -103,7 +106,7 @@ pub fn pop_leaf(pool: &mut Pool<'_>, t: Tree) -> Taken
     if t.shift.is_leaf_level() {
         return Taken {
             leaf: t.root,
-            len: blocks::count(pool.words(), t.root),
+            len: pool.block(t.root).count(),
             left: 0,
             freed: 0,
         };

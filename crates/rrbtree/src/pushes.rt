@@ -4,7 +4,7 @@ ghost use Rattle.blocks.specs.Pools.{on, Leaves, Gives};
 ghost use Rattle.rrbtree.specs.Pushes.{path_of, add_path, go_last, push_at, push_above, push_of, shift_after};
 
 use crate::{Room, Tree};
-use blocks::Pool;
+use blocks::{Block, Pool};
 use levels::{Shift, Slot};
 use node::Slots;
 
@@ -25,7 +25,7 @@ fn new_path(pool: &mut Pool<'_>, height: usize, src: Slots<'_>) -> usize
 fn add_path(pool: &mut Pool<'_>, b: usize, height: usize, src: Slots<'_>)
     ensures { Leaves pool.old pool.new (on (add_path height) pool.old b src.entry.words.now).0 (on (add_path height) pool.old b src.entry.words.now).1 }
 {
-    let n = blocks::count(pool.words(), b);
+    let n = pool.block(b).count();
     let k = new_path(pool, height, src);
     if n < 32 {
         node::link(&mut *pool.words, b, Slot { at: n }, k, src.words.len());
@@ -39,8 +39,9 @@ fn go_last(pool: &mut [u64], b: usize, depth: usize, len: usize) -> usize
 {
     let mut at = b;
     for _ in 0..depth {
-        let i = blocks::last(pool, at);
-        let next = blocks::child(pool, at, i);
+        let branch = Block::new(pool, at);
+        let i = branch.last();
+        let next = branch.child(i).number;
         node::more_kid(pool, at, i, len);
         at = next;
     }

@@ -4,6 +4,7 @@ ghost use Rattle.rrbtree.specs.Rooms.{sibling_of, dense_room, relaxed_room, look
 
 use crate::Tree;
 use crate::walks::Cursor;
+use blocks::Block;
 use levels::{Index, Shift};
 use std::ops::ControlFlow;
 
@@ -37,11 +38,12 @@ fn dense_room(pool: &[u64], from: Cursor) -> usize
 {
     let mut at = from;
     loop {
+        let branch = Block::new(pool, at.block);
         let h = at.shift.height();
-        if h < 2 || at.place.child(at.shift).at == blocks::count(pool, at.block) {
+        if h < 2 || at.place.child(at.shift).at == branch.count() {
             break h;
         }
-        at.block = blocks::child(pool, at.block, blocks::last(pool, at.block));
+        at.block = branch.child(branch.last()).number;
         at.shift = at.shift.dec();
     }
 }
@@ -57,11 +59,12 @@ impl Search {
             shift,
             place,
         } = self.at;
-        let i = blocks::last(pool, block);
+        let branch = Block::new(pool, block);
+        let i = branch.last();
         let kid = Cursor {
-            block: blocks::child(pool, block, i),
+            block: branch.child(i).number,
             shift: shift.dec(),
-            place: place.less(node::before(pool, block, i.before())),
+            place: place.less(node::before(branch, i.before())),
         };
         if i.at < 31 {
             return Search {
@@ -82,16 +85,17 @@ impl Search {
             shift,
             place,
         } = self.at;
+        let branch = Block::new(pool, block);
         if shift.is_leaf_level() {
             return ControlFlow::Break(sibling(self.level));
         }
         if shift.is_level_with_leaves() {
-            if blocks::count(pool, block) < 32 {
+            if branch.count() < 32 {
                 return ControlFlow::Break(Room::At(1));
             }
             return ControlFlow::Break(sibling(self.level));
         }
-        if blocks::is_relaxed(pool, block) {
+        if branch.is_relaxed() {
             return ControlFlow::Continue(self.relaxed_room(pool));
         }
         if place.has_room(shift) {

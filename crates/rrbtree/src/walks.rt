@@ -4,7 +4,7 @@ ghost use Rattle.blocks.specs.Words.{slot_of, put_of};
 ghost use Rattle.rrbtree.specs.Walks.{down_of, walk_of, found_of};
 
 use crate::Tree;
-use blocks::Field;
+use blocks::{Block, Field};
 use levels::{Index, Shift, Slot};
 
 // Where a walk is: a node's block and level, and the place below the node.
@@ -46,18 +46,19 @@ impl Cursor {
             shift,
             place,
         } = self;
+        let branch = Block::new(pool, block);
         let below = shift.dec();
-        if blocks::is_relaxed(pool, block) {
-            let i = node::first_above(pool, block, shift, place);
-            let before = node::before(pool, block, i.before());
+        if branch.is_relaxed() {
+            let i = node::first_above(branch, shift, place);
+            let before = node::before(branch, i.before());
             return Cursor {
-                block: blocks::child(pool, block, i),
+                block: branch.child(i).number,
                 shift: below,
                 place: place.less(before),
             };
         }
         Cursor {
-            block: blocks::child(pool, block, place.child(shift)),
+            block: branch.child(place.child(shift)).number,
             shift: below,
             place,
         }
@@ -88,7 +89,7 @@ pub fn get(pool: &[u64], t: Tree, place: Index) -> u64
     ensures { result ≡ slot_of pool.now (found_of pool.now t place.0).block (found_of pool.now t place.0).slot }
 {
     let f = Cursor::new(t, place).walk(pool);
-    blocks::slot(pool, f.block, f.slot)
+    Block::new(pool, f.block).slot(f.slot)
 }
 
 // Stores x at a place.

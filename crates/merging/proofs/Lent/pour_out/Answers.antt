@@ -13,7 +13,7 @@ loop-at-preserved c =
       c.put.ensures.0 ∙ v.1,
       omega (arith, c.past_gap-t-in-loop-at.ensures.near, v.2),
       omega arith,
-      v.4 ∙ node-at _ _ _ _ _ l.at l.t w c.if-m-at.false ∙ rw (c.put.ensures.1, c.past_gap-t-in-loop-at.ensures.next, c.slot-x.ensures, c.words-in-loop-at.ensures, v.0.2),
+      v.4 ∙ node-at _ _ _ _ _ l.at l.t w c.if-m-at.false ∙ rw (c.put.ensures.1, c.past_gap-t-in-loop-at.ensures.next, c.slot-x.ensures, c.block-in-loop-at.ensures.pool, c.block-in-loop-at.ensures.number, v.0.2),
     )
 
 pub nodes-preserved-then-m-at : goal.nodes-preserved-then-m-at
@@ -22,7 +22,7 @@ nodes-preserved-then-m-at c =
     let o = c.nodes in
     let v = l.invariant in
     let u = o.invariant in
-    let m : c.count-m.result ≡ count_of c.args.self.now.pool.words.now c.item-b.result = c.count-m.ensures ∙ rw (c.words.ensures, u.0.2) in (
+    let m : c.count-m.result ≡ count_of c.args.self.now.pool.words.now c.item-b.result = c.count-m.ensures ∙ rw (c.block.ensures.pool, c.block.ensures.number, u.0.2) in (
       (v.0.0 ∙ u.0.0, v.0.1 ∙ u.0.1, v.0.2 ∙ u.0.2),
       v.1 ∙ u.1,
       omega arith,
@@ -36,7 +36,7 @@ nodes-preserved c =
     let o = c.nodes in
     let v = l.invariant in
     let u = o.invariant in
-    let m : c.count-m.result ≡ count_of c.args.self.now.pool.words.now c.item-b.result = c.count-m.ensures ∙ rw (c.words.ensures, u.0.2) in
+    let m : c.count-m.result ≡ count_of c.args.self.now.pool.words.now c.item-b.result = c.count-m.ensures ∙ rw (c.block.ensures.pool, c.block.ensures.number, u.0.2) in
     let full : c.count-m.result ≤ l.at = omega (arith, c.count-m.ensures, c.loop-at-test.false) in (
       (v.0.0 ∙ u.0.0, v.0.1 ∙ u.0.1, v.0.2 ∙ u.0.2),
       v.1 ∙ u.1,
