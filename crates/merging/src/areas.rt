@@ -2,7 +2,7 @@
 ghost use Rattle.std.specs.Prelude.{◌≡◌, ◌+◌, ◌-◌, ◌<◌, ◌≤◌, length, replicate, slice_index, slice_range, slice_set, MatchOption};
 ghost use Rattle.std.proofs.lemmas.List.Edits.{sets};
 ghost use Rattle.merging.specs.Areas.{Stores, row_len, set_row_len, row_place, set_row_place, item_of, add_item, node_at, flat_at};
-ghost use Rattle.merging.specs.Packs.{lay_nodes, keep_of};
+ghost use Rattle.merging.specs.Packs.{next_flat, lay_nodes, keep_of};
 
 use levels::{Below, Count};
 use node::Slots;
@@ -35,6 +35,28 @@ pub type Rising = Below<201>;
 // A number of flat slots.
 pub type FlatSlots = Below<200001>;
 
+// A gap among the flat slots: so many for the nodes from below, from slot `at` on.
+#[derive(Clone, Copy)]
+pub struct Gap {
+    pub at: usize,
+    pub len: Raised,
+    ghost in_row: { at ≤ 2048 },
+}
+
+impl Gap {
+    // The flat slot t, or the one past the gap where that begins there.
+    #[tactic(auto, unfolding(crate::specs::Packs::next_flat))]
+    pub(crate) fn past(self, t: FlatSlots) -> usize
+        ensures next { result ≡ next_flat t.at self.at self.len.at }
+        ensures near { result ≤ t.at + self.len.at }
+    {
+        if t.at == self.at {
+            return t.at + self.len.at;
+        }
+        t.at
+    }
+}
+
 // A lent work area.
 #[derive(Drop)]
 pub struct Area<'a> {
@@ -42,12 +64,6 @@ pub struct Area<'a> {
 }
 
 impl Area<'_> {
-    pub fn words(&self) -> &[u64]
-        ensures { result.now ≡ self.now.words.now }
-    {
-        self.words
-    }
-
     // The whole area zero.
     pub fn clear(&mut self)
         ensures { Stores self.old self.new (replicate (length self.old.words.now) 0) }
@@ -56,14 +72,14 @@ impl Area<'_> {
     }
 
     // Word i of the area; 0 past its end.
-    pub fn get(&self, i: usize) -> u64
+    pub(crate) fn get(&self, i: usize) -> u64
         ensures { result ≡ slice_index self.now.words.now i }
     {
         self.words.get(i).copied().unwrap_or(0)
     }
 
     // Stores word i of the area; past its end nothing.
-    pub fn put(&mut self, i: usize, x: u64)
+    pub(crate) fn put(&mut self, i: usize, x: u64)
         ensures { Stores self.old self.new (slice_set self.old.words.now i x) }
     {
         if i < self.words.len() {
@@ -72,7 +88,7 @@ impl Area<'_> {
     }
 
     // The nodes in row j.
-    pub fn row_len(&self, j: Row) -> InRow
+    pub(crate) fn row_len(&self, j: Row) -> InRow
         ensures { result.at ≡ row_len self.now.words.now j.at }
     {
         InRow {
@@ -81,21 +97,21 @@ impl Area<'_> {
     }
 
     #[tactic(auto, unfolding(crate::specs::Areas::set_row_len))]
-    pub fn set_row_len(&mut self, j: Row, n: usize)
+    pub(crate) fn set_row_len(&mut self, j: Row, n: usize)
         ensures { Stores self.old self.new (set_row_len self.old.words.now j.at n) }
     {
         self.put(j.at * WIDTH, n as u64);
     }
 
     // The slots of row j before which the nodes from below go.
-    pub fn row_place(&self, j: Row) -> usize
+    pub(crate) fn row_place(&self, j: Row) -> usize
         ensures { result ≡ row_place self.now.words.now j.at }
     {
         (self.get(j.at * WIDTH + 1) as usize).min(2048)
     }
 
     #[tactic(auto, unfolding(crate::specs::Areas::set_row_place))]
-    pub fn set_row_place(&mut self, j: Row, p: usize)
+    pub(crate) fn set_row_place(&mut self, j: Row, p: usize)
         ensures { Stores self.old self.new (set_row_place self.old.words.now j.at p) }
     {
         self.put(j.at * WIDTH + 1, p as u64);
@@ -103,7 +119,7 @@ impl Area<'_> {
 
     // Node i of row j.
     #[tactic(auto, unfolding(crate::specs::Areas::item_of))]
-    pub fn item(&self, j: Row, i: usize) -> usize
+    pub(crate) fn item(&self, j: Row, i: usize) -> usize
         requires { i < 62 }
         ensures { result ≡ item_of self.now.words.now j.at i }
     {
@@ -112,7 +128,7 @@ impl Area<'_> {
 
     // Adds block b to row j, while there is room.
     #[tactic(auto, unfolding(crate::specs::Areas::add_item))]
-    pub fn add_item(&mut self, j: Row, b: usize)
+    pub(crate) fn add_item(&mut self, j: Row, b: usize)
         ensures { Stores self.old self.new (add_item self.old.words.now j.at b) }
     {
         let n = self.row_len(j).at;
@@ -122,21 +138,20 @@ impl Area<'_> {
         }
     }
 
-    // The first c nodes from below become the flat slots from q on.
+    // The first nodes from below become the flat slots of the gap.
     #[tactic(auto, using(crate::specs::Packs::lay_at, crate::specs::Packs::lay_end))]
-    pub fn lay_nodes(&mut self, q: usize, c: Raised)
-        requires { q ≤ 2048 }
-        ensures { Stores self.old self.new (lay_nodes self.old.words.now q c.at 0) }
+    pub(crate) fn lay_nodes(&mut self, gap: Gap)
+        ensures { Stores self.old self.new (lay_nodes self.old.words.now gap.at gap.len.at 0) }
     {
-        for i in 0..c.at {
+        for i in 0..gap.len.at {
             let x = self.get(NODES + i);
-            self.put(FLAT + q + i, x);
+            self.put(FLAT + gap.at + i, x);
         }
     }
 
     // The nodes k..end of row j go up, after the first out.
     #[tactic(auto, using(crate::specs::Packs::keep_at, crate::specs::Packs::keep_end))]
-    pub fn keep(&mut self, j: Row, k: usize, end: InRow, out: Rising)
+    pub(crate) fn keep(&mut self, j: Row, k: usize, end: InRow, out: Rising)
         ensures { Stores self.old self.new (keep_of self.old.words.now j.at (end.at - k) k out.at) }
     {
         for i in k..end.at {
@@ -146,7 +161,7 @@ impl Area<'_> {
     }
 
     // The m flat slots from t on, where they are there.
-    pub fn flat(&self, t: FlatSlots, m: Count) -> Option<Slots<'_>>
+    pub(crate) fn flat(&self, t: FlatSlots, m: Count) -> Option<Slots<'_>>
         ensures { MatchOption result (length self.now.words.now < flat_at t.at + m.at) (λ s. (flat_at t.at + m.at ≤ length self.now.words.now) × (s.words.now ≡ slice_range self.now.words.now (flat_at t.at) (flat_at t.at + m.at))) }
     {
         let start = FLAT + t.at;
@@ -160,7 +175,7 @@ impl Area<'_> {
     }
 
     // Words go up, after the first out.
-    pub fn lift(&mut self, words: &[u64], out: Count)
+    pub(crate) fn lift(&mut self, words: &[u64], out: Count)
         ensures { Stores self.old self.new (sets self.old.words.now (node_at out.at) words.now) }
     {
         for (i, x) in words.iter().enumerate() {

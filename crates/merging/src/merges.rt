@@ -5,7 +5,7 @@ ghost use Rattle.merging.specs.Lent.{on, Holds, Becomes, Packs, Joins};
 ghost use Rattle.merging.specs.Merges.{add_items, row_slots, collect_of, collect_both, lift_leaf, lift_leaves, merge_level, merge_of};
 
 use crate::areas::{NODES, Row};
-use crate::spines::{Others, Spine};
+use crate::spines::Others;
 use crate::{Lent, Pair};
 use levels::{Count, Shift, Slot};
 use node::Slots;
@@ -98,22 +98,21 @@ impl Lent<'_, '_> {
         m + n
     }
 
-    // The spines from height j down: what goes up to height j.
-    fn merge_level(&mut self, tail: Slots<'_>, l: Spine, r: Spine, j: usize) -> usize
-        requires { j ≤ 50 }
-        ensures { Packs self.old self.new result (on (merge_level j) self.old tail.entry.words.now l r) }
+    // The spines from their top down: what goes up to that height.
+    fn merge_level(&mut self, tail: Slots<'_>, p: Pair) -> usize
+        requires { p.top ≤ 50 }
+        ensures { Packs self.old self.new result (on (merge_level p.top) self.old tail.entry.words.now p.left p.right) }
     {
-        if j == 0 {
-            return self.lift_leaves(tail, l.block, r.block);
+        if p.top == 0 {
+            return self.lift_leaves(tail, p.left.block, p.right.block);
         }
-        let row = Row { at: j - 1 };
-        let l_others = l.beside(self.pool.words(), j);
-        let r_others = r.beside(self.pool.words(), j);
-        let l_below = l.below(self.pool.words(), j);
-        let r_below = r.below(self.pool.words(), j);
-        self.collect_both(row, l_others, r_others);
+        let row = Row { at: p.top - 1 };
+        let l = p.left.beside(self.pool.words(), p.top);
+        let r = p.right.beside(self.pool.words(), p.top);
+        let below = p.below(self.pool.words());
+        self.collect_both(row, l, r);
         self.squeeze(row);
-        let n = self.merge_level(tail, l_below, r_below, j - 1);
+        let n = self.merge_level(tail, below);
         self.insert(row, n)
     }
 
@@ -124,7 +123,7 @@ impl Lent<'_, '_> {
     {
         self.area.clear();
         let top = p.top;
-        let c = self.merge_level(tail, p.left, p.right, top);
+        let c = self.merge_level(tail, p);
         let n = self.insert(Row { at: top }, c);
         if n < 2 {
             return self.merged(top);

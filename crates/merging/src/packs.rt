@@ -6,25 +6,13 @@ ghost use Rattle.blocks.specs.Pools.{Leaves};
 ghost use Rattle.node.specs.Leaves.{store_of};
 ghost use Rattle.node.specs.Builds.{built_of};
 ghost use Rattle.merging.specs.Lent.{on, Holds, Becomes, Packs};
-ghost use Rattle.merging.specs.Packs.{lead_from, next_flat, pour_out, block_for, write_node, pour_in, release_items, pour_of, stays_whole, raise_nodes, raise_rest, insert_whole, insert_poured, insert_of, squeeze_of};
+ghost use Rattle.merging.specs.Packs.{lead_from, pour_out, block_for, write_node, pour_in, release_items, pour_of, stays_whole, raise_nodes, raise_rest, insert_whole, insert_poured, insert_of, squeeze_of};
 
 use crate::Lent;
-use crate::areas::{FLAT, FlatSlots, InRow, NODES, Raised, Rising, Row};
+use crate::areas::{FLAT, FlatSlots, Gap, InRow, NODES, Raised, Rising, Row};
 use blocks::Pool;
 use levels::{Count, Shift, Slot};
 use node::Slots;
-
-// The flat slot t, or the one past a gap of c that begins there.
-#[tactic(auto, unfolding(crate::specs::Packs::next_flat))]
-fn past_gap(t: FlatSlots, q: usize, c: Raised) -> usize
-    ensures next { result ≡ next_flat t.at q c.at }
-    ensures near { result ≤ t.at + c.at }
-{
-    if t.at == q {
-        return t.at + c.at;
-    }
-    t.at
-}
 
 // Whether c nodes from below at place p, after k full nodes, leave whole what follows them.
 #[tactic(auto, unfolding(crate::specs::Packs::stays_whole))]
@@ -44,7 +32,7 @@ fn fill_node(pool: &mut Pool<'_>, b: usize, src: Slots<'_>, m: Count, j: Row)
 
 impl Lent<'_, '_> {
     // The slots of node i of row j.
-    pub fn count(&self, j: Row, i: usize) -> usize
+    pub(crate) fn count(&self, j: Row, i: usize) -> usize
         requires { i < 62 }
         ensures { result ≡ count_of self.now.pool.words.now (item_of self.now.area.words.now j.at i) }
     {
@@ -68,12 +56,12 @@ impl Lent<'_, '_> {
         }
     }
 
-    // Lays the slots of row j's nodes from k on flat, with a gap of c from q on. Where they end.
-    fn pour_out(&mut self, j: Row, k: InRow, q: usize, c: Raised) -> FlatSlots
-        ensures end { result.at ≡ (pour_out self.old.pool.words.now self.old.area.words.now j.at k.at q c.at).0 }
-        ensures lent { Holds self.old self.new self.old.pool.state self.old.pool.words.now (pour_out self.old.pool.words.now self.old.area.words.now j.at k.at q c.at).1 }
+    // Lays the slots of row j's nodes from k on flat, with a gap. Where they end.
+    fn pour_out(&mut self, j: Row, k: InRow, gap: Gap) -> FlatSlots
+        ensures end { result.at ≡ (pour_out self.old.pool.words.now self.old.area.words.now j.at k.at gap.at gap.len.at).0 }
+        ensures lent { Holds self.old self.new self.old.pool.state self.old.pool.words.now (pour_out self.old.pool.words.now self.old.area.words.now j.at k.at gap.at gap.len.at).1 }
     {
-        let mut t = past_gap(FlatSlots { at: 0 }, q, c);
+        let mut t = gap.past(FlatSlots { at: 0 });
         'nodes: for i in k.at..self.area.row_len(j).at {
             let b = self.area.item(j, i);
             let m = self.pool.block(b).count();
@@ -83,7 +71,7 @@ impl Lent<'_, '_> {
                 }
                 let x = self.pool.block(b).slot(Slot { at });
                 self.area.put(FLAT + t, x);
-                t = past_gap(FlatSlots { at: t + 1 }, q, c);
+                t = gap.past(FlatSlots { at: t + 1 });
             }
         }
         FlatSlots { at: t }
@@ -154,7 +142,7 @@ impl Lent<'_, '_> {
         ensures { Becomes self.old self.new (on raise_nodes self.old j.at k.at c.at) }
     {
         let n = self.area.row_len(j);
-        self.area.lay_nodes(0, c);
+        self.area.lay_nodes(Gap { at: 0, len: c });
         self.area.keep(j, 0, k, Rising { at: 0 });
         self.pour_in(j, n, FlatSlots { at: c.at }, Rising { at: k.at });
     }
@@ -166,7 +154,8 @@ impl Lent<'_, '_> {
         ensures { Packs self.old self.new result (on raise_rest self.old j.at k.at l.at out.at) }
     {
         self.area.keep(j, k.at, l, Rising { at: out.at });
-        let t = self.pour_out(j, l, 0, Raised { at: 0 });
+        let none = Raised { at: 0 };
+        let t = self.pour_out(j, l, Gap { at: 0, len: none });
         let kept = out.at + (l.at - k.at);
         self.pour(j, l, t, Rising { at: kept })
     }
@@ -182,21 +171,20 @@ impl Lent<'_, '_> {
         self.raise_rest(j, k, l, Raised { at: out })
     }
 
-    // The c nodes from below go between the slots, q after those of the first k nodes of row j, and all from there on is poured.
+    // The nodes from below go into a gap between the slots after those of the first k nodes of row j, and all from there on is poured.
     #[tactic(auto, unfolding(crate::specs::Packs::insert_poured))]
-    fn insert_poured(&mut self, j: Row, k: InRow, q: usize, c: Raised) -> usize
-        requires { q ≤ 2048 }
-        ensures { Packs self.old self.new result (on insert_poured self.old j.at k.at q c.at) }
+    fn insert_poured(&mut self, j: Row, k: InRow, gap: Gap) -> usize
+        ensures { Packs self.old self.new result (on insert_poured self.old j.at k.at gap.at gap.len.at) }
     {
-        self.area.lay_nodes(q, c);
-        let t = self.pour_out(j, k, q, c);
+        self.area.lay_nodes(gap);
+        let t = self.pour_out(j, k, gap);
         self.area.keep(j, 0, k, Rising { at: 0 });
         self.pour(j, k, t, Rising { at: k.at })
     }
 
     // Puts the first nodes from below, c of them and 64 at most, at the place of row j. The nodes of that height go up.
     #[tactic(auto, unfolding(crate::specs::Packs::insert_of))]
-    pub fn insert(&mut self, j: Row, c: usize) -> usize
+    pub(crate) fn insert(&mut self, j: Row, c: usize) -> usize
         ensures { Packs self.old self.new result (on insert_of self.old j.at c) }
     {
         let d = Raised { at: c.min(64) };
@@ -208,12 +196,13 @@ impl Lent<'_, '_> {
         if stays_whole(k, p, d) {
             return self.insert_whole(j, k, d);
         }
-        self.insert_poured(j, k, p - k.at * 32, d)
+        let at = p - k.at * 32;
+        self.insert_poured(j, k, Gap { at, len: d })
     }
 
     // Packs the nodes of row j: full ones at the start stay whole, the others are poured.
     #[tactic(auto, unfolding(crate::specs::Packs::squeeze_of))]
-    pub fn squeeze(&mut self, j: Row)
+    pub(crate) fn squeeze(&mut self, j: Row)
         ensures { Becomes self.old self.new (on squeeze_of self.old j.at) }
     {
         let n = self.insert_whole(j, InRow { at: 0 }, Raised { at: 0 });

@@ -4,7 +4,7 @@ ghost use Rattle.blocks.specs.Views.{read};
 ghost use Rattle.merging.specs.Plans.{counts_of, with_others, packed_of, plan_leaves, plan_level, held_after};
 
 use crate::Pair;
-use crate::spines::{Others, Spine};
+use crate::spines::Others;
 use blocks::Block;
 use levels::Slot;
 
@@ -68,10 +68,10 @@ impl Plan {
 
     // The two leaves that meet; a tail stands for the left one.
     #[tactic(auto, unfolding(crate::specs::Plans::plan_leaves))]
-    fn leaves(pool: &[u64], l: Spine, tail: usize, r: Spine) -> Self
-        ensures { result ≡ plan_leaves pool.now l tail r }
+    fn leaves(pool: &[u64], p: Pair, tail: usize) -> Self
+        ensures { result ≡ plan_leaves pool.now p.left tail p.right }
     {
-        let n = Block::new(pool, r.block).count();
+        let n = Block::new(pool, p.right.block).count();
         if 0 < tail {
             return Plan {
                 slots: tail.wrapping_add(n),
@@ -80,23 +80,23 @@ impl Plan {
             };
         }
         Plan {
-            slots: Block::new(pool, l.block).count().wrapping_add(n),
+            slots: Block::new(pool, p.left.block).count().wrapping_add(n),
             made: 0,
             gone: 2,
         }
     }
 
-    // The plan up to height j.
+    // The plan up to the top of a pair.
     #[tactic(auto, using(crate::specs::Plans::plan_bottom, crate::specs::Plans::plan_up))]
-    fn level(pool: &[u64], l: Spine, tail: usize, r: Spine, j: usize) -> Self
-        ensures { result ≡ plan_level j pool.now l tail r }
+    fn level(pool: &[u64], p: Pair, tail: usize) -> Self
+        ensures { result ≡ plan_level p.top pool.now p.left tail p.right }
     {
-        if j == 0 {
-            return Plan::leaves(pool, l, tail, r);
+        if p.top == 0 {
+            return Plan::leaves(pool, p, tail);
         }
-        Plan::level(pool, l.below(pool, j), tail, r.below(pool, j), j - 1)
-            .with_others(pool, l.beside(pool, j))
-            .with_others(pool, r.beside(pool, j))
+        Plan::level(pool, p.below(pool), tail)
+            .with_others(pool, p.left.beside(pool, p.top))
+            .with_others(pool, p.right.beside(pool, p.top))
             .packed()
     }
 }
@@ -106,7 +106,7 @@ impl Plan {
 pub fn held_after(pool: &[u64], p: Pair, tail: usize, held: usize) -> usize
     ensures { result ≡ held_after pool.now p tail held }
 {
-    let q = Plan::level(pool, p.left, tail, p.right, p.top).packed();
+    let q = Plan::level(pool, p, tail).packed();
     let after = held.saturating_sub(q.gone).wrapping_add(q.made);
     if 1 < q.slots {
         return after.wrapping_add(1);

@@ -1,5 +1,5 @@
 // The two spines along which trees meet: the left tree's goes down last children, the right tree's down first children.
-ghost use Rattle.std.specs.Prelude.{◌≡◌};
+ghost use Rattle.std.specs.Prelude.{◌≡◌, ◌-◌};
 ghost use Rattle.merging.specs.Spines.{hangs_at, pair_of, left_others, right_others, others_of, below_of};
 
 use blocks::Block;
@@ -108,7 +108,7 @@ impl Spine {
 
     // What stands beside the spine below its node at height j.
     #[tactic(auto, unfolding(crate::specs::Spines::others_of))]
-    pub fn beside(self, pool: &[u64], j: usize) -> Option<Others>
+    pub(crate) fn beside(self, pool: &[u64], j: usize) -> Option<Others>
         ensures { result ≡ others_of pool.now self j }
     {
         match self.side {
@@ -119,7 +119,7 @@ impl Spine {
 
     // The spine one level below height j.
     #[tactic(auto, unfolding(crate::specs::Spines::below_of))]
-    pub fn below(self, pool: &[u64], j: usize) -> Self
+    pub(crate) fn below(self, pool: &[u64], j: usize) -> Self
         ensures { result ≡ below_of pool.now self j }
     {
         if self.height < j {
@@ -133,6 +133,19 @@ impl Spine {
         Spine {
             block: node.child(i).number,
             ..self
+        }
+    }
+}
+
+impl Pair {
+    // The pair one level below its top.
+    pub(crate) fn below(self, pool: &[u64]) -> Self
+        ensures { result ≡ record { left = below_of pool.now self.left self.top; right = below_of pool.now self.right self.top; top = self.top - 1 } }
+    {
+        Pair {
+            left: self.left.below(pool, self.top),
+            right: self.right.below(pool, self.top),
+            top: self.top.saturating_sub(1),
         }
     }
 }

@@ -24,7 +24,7 @@ pub struct Found {
 
 impl Cursor {
     // From the root of a tree.
-    pub fn new(t: Tree, place: Index) -> Self
+    pub(crate) fn new(t: Tree, place: Index) -> Self
         ensures { result ≡ record { block = t.root; shift = t.shift; place = place } }
     {
         Cursor {

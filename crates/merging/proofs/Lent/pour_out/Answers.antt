@@ -11,9 +11,9 @@ loop-at-preserved c =
     let w = l.self.area.words.now in (
       v.0,
       c.put.ensures.0 ∙ v.1,
-      omega (arith, c.past_gap-t-in-loop-at.ensures.near, v.2),
+      omega (arith, c.past-t-in-loop-at.ensures.near, v.2),
       omega arith,
-      v.4 ∙ node-at _ _ _ _ _ l.at l.t w c.if-m-at.false ∙ rw (c.put.ensures.1, c.past_gap-t-in-loop-at.ensures.next, c.slot-x.ensures, c.block-in-loop-at.ensures.pool, c.block-in-loop-at.ensures.number, v.0.2),
+      v.4 ∙ node-at _ _ _ _ _ l.at l.t w c.if-m-at.false ∙ rw (c.put.ensures.1, c.past-t-in-loop-at.ensures.next, c.slot-x.ensures, c.block-in-loop-at.ensures.pool, c.block-in-loop-at.ensures.number, v.0.2),
     )
 
 pub nodes-preserved-then-m-at : goal.nodes-preserved-then-m-at
@@ -53,7 +53,7 @@ unfolding pour_out
 returns-clause-end c =
     let o = c.nodes in
     let e = o.invariant.4 ∙ nodes_end _ _ _ _ _ o.i o.t o.self.area.words.now c.nodes-test.false in
-    rw (← c.row_len-i-end.ensures, ← c.past_gap-t.ensures.next) (sym (ap (λ (p : ℕ × List ℕ). p.0) e))
+    rw (← c.row_len-i-end.ensures, ← c.past-t.ensures.next) (sym (ap (λ (p : ℕ × List ℕ). p.0) e))
 
 pub returns-clause-lent : goal.returns-clause-lent
 unfolding pour_out
@@ -61,4 +61,4 @@ returns-clause-lent c =
     let o = c.nodes in
     let u = o.invariant in
     let e = u.4 ∙ nodes_end _ _ _ _ _ o.i o.t o.self.area.words.now c.nodes-test.false in
-    (u.0, (u.1, rw (← c.row_len-i-end.ensures, ← c.past_gap-t.ensures.next) (sym (ap (λ (p : ℕ × List ℕ). p.1) e))))
+    (u.0, (u.1, rw (← c.row_len-i-end.ensures, ← c.past-t.ensures.next) (sym (ap (λ (p : ℕ × List ℕ). p.1) e))))

@@ -9,11 +9,11 @@ invariant-loop-at l =
     let old = l.initial.self in
     let new = l.self in
     let ws = old.pool.words.now in
-    Leaves old.pool new.pool old.pool.state ws × (new.area.words.ghost_name ≡ old.area.words.ghost_name) × (l.t ≤ l.initial.t + 65 * l.at) × (l.at ≤ l.m) × (pour_node ws l.b l.q l.c.at l.m 0 l.initial.t old.area.words.now ≡ pour_node ws l.b l.q l.c.at (l.m - l.at) l.at l.t new.area.words.now)
+    Leaves old.pool new.pool old.pool.state ws × (new.area.words.ghost_name ≡ old.area.words.ghost_name) × (l.t ≤ l.initial.t + 65 * l.at) × (l.at ≤ l.m) × (pour_node ws l.b l.gap.at l.gap.len.at l.m 0 l.initial.t old.area.words.now ≡ pour_node ws l.b l.gap.at l.gap.len.at (l.m - l.at) l.at l.t new.area.words.now)
 
 abbrev pub invariant-nodes : goal.invariant-nodes
 invariant-nodes l =
     let old = l.initial.self in
     let new = l.self in
     let ws = old.pool.words.now in
-    Leaves old.pool new.pool old.pool.state ws × (new.area.words.ghost_name ≡ old.area.words.ghost_name) × (l.i ≤ l.fn.k.at + 62) × (l.t ≤ 64 + 2080 * (l.i - l.fn.k.at)) × (pour_nodes ws l.j.at l.q l.c.at (l.i-end - l.fn.k.at) l.fn.k.at l.initial.t old.area.words.now ≡ pour_nodes ws l.j.at l.q l.c.at (l.i-end - l.i) l.i l.t new.area.words.now)
+    Leaves old.pool new.pool old.pool.state ws × (new.area.words.ghost_name ≡ old.area.words.ghost_name) × (l.i ≤ l.fn.k.at + 62) × (l.t ≤ 64 + 2080 * (l.i - l.fn.k.at)) × (pour_nodes ws l.j.at l.gap.at l.gap.len.at (l.i-end - l.fn.k.at) l.fn.k.at l.initial.t old.area.words.now ≡ pour_nodes ws l.j.at l.gap.at l.gap.len.at (l.i-end - l.i) l.i l.t new.area.words.now)

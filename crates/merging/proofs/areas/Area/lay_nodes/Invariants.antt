@@ -5,4 +5,4 @@ use Rattle.merging.proofs.areas.Area.lay_nodes.Given as goal
 
 abbrev pub invariant-loop-i : goal.invariant-loop-i
 invariant-loop-i l =
-    (l.self.words.ghost_name ≡ l.initial.self.words.ghost_name) × (lay_nodes l.initial.self.words.now l.q l.i-end 0 ≡ lay_nodes l.self.words.now l.q (l.i-end - l.i) l.i)
+    (l.self.words.ghost_name ≡ l.initial.self.words.ghost_name) × (lay_nodes l.initial.self.words.now l.gap.at l.i-end 0 ≡ lay_nodes l.self.words.now l.gap.at (l.i-end - l.i) l.i)

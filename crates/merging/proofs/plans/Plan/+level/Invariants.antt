@@ -2,4 +2,4 @@
 use Rattle.merging.proofs.plans.Plan.+level.Given as goal
 
 abbrev pub decreases-level : goal.decreases-level
-decreases-level l = l.j
+decreases-level l = l.p.top
