@@ -82,9 +82,7 @@ impl Area<'_> {
     pub(crate) fn put(&mut self, i: usize, x: u64)
         ensures { Stores self.old self.new (slice_set self.old.words.now i x) }
     {
-        if i < self.words.len() {
-            self.words[i] = x;
-        }
+        node::leaf_add(&mut *self.words, i, x);
     }
 
     // The nodes in row j.

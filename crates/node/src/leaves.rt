@@ -72,13 +72,11 @@ pub fn in_use<'a>(b: Block<'a>) -> &'a [u64]
 }
 
 // The elements of a leaf, and zeros after them.
-#[tactic(auto, using(crate::specs::Leaves::taken_more), unfolding(crate::specs::Leaves::take_of, crate::specs::Leaves::slots_from))]
 pub fn leaf_take(b: Block<'_>) -> [u64; 32]
     ensures { result ≡ read take_of b.entry }
 {
+    let elements = in_use(b);
     let mut out = [0u64; 32];
-    for at in 0..b.count() {
-        out[at] = b.slot(Slot { at });
-    }
+    out[..elements.len()].copy_from_slice(elements);
     out
 }

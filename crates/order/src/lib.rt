@@ -1,6 +1,2 @@
 // The order in which an append in place does its work: theory only. What is to be believed is in specs/, what is proved of it in proofs/.
 #![tactic(auto)]
-
-pub fn theory() -> u64 {
-    0
-}
