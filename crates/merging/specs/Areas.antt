@@ -5,6 +5,8 @@ use Rattle.std.proofs.Common.{append_assoc, add-one, drop-cons}
 use Rattle.std.proofs.lemmas.List.{length-replicate, replicate-append-replicate, set_at}
 use Rattle.blocks.specs.Words.{pick}
 use Rattle.merging.specs.declared.areas.Area.{Area}
+use Rattle.merging.specs.declared.areas.Entry.{Entry}
+use Rattle.merging.specs.declared.areas.Entry.TheVariants as entry
 
 -- a call leaves the same area lent, with these words in it
 abbrev pub Stores : Area → Area → List ℕ → Type 0
@@ -36,6 +38,14 @@ node_at i = 3200 + i
 
 abbrev pub flat_at : ℕ → ℕ
 flat_at t = 3264 + t
+
+-- the place of a word in the area
+abbrev pub entry_at : Entry → ℕ
+entry_at (entry.Len j) = j.at * 64
+entry_at (entry.Place j) = j.at * 64 + 1
+entry_at (entry.Node j i) = j.at * 64 + 2 + i.at
+entry_at (entry.Raised t) = node_at t.at
+entry_at (entry.Flat t) = flat_at t.at
 
 -- zeros before the rest of a list, with one more
 pub cleared_more : (w : List ℕ) (i : ℕ) → i < length w → slice_set (replicate i 0 ++ drop i w) i 0 ≡ replicate (i + 1) 0 ++ drop (i + 1) w

@@ -1,7 +1,7 @@
 // The lent work area: a row of nodes for each height, the nodes from below, and slots laid flat.
 ghost use Rattle.std.specs.Prelude.{◌≡◌, ◌+◌, ◌-◌, ◌<◌, ◌≤◌, length, replicate, slice_index, slice_range, slice_set, MatchOption};
 ghost use Rattle.std.proofs.lemmas.List.Edits.{sets};
-ghost use Rattle.merging.specs.Areas.{Stores, row_len, set_row_len, row_place, set_row_place, item_of, add_item, node_at, flat_at};
+ghost use Rattle.merging.specs.Areas.{Stores, entry_at, row_len, row_place, item_of, add_item, node_at, flat_at};
 ghost use Rattle.merging.specs.Packs.{next_flat, lay_nodes, keep_of};
 
 use levels::{Below, Count};
@@ -23,7 +23,9 @@ pub const WORK: usize = 5312;
 // A row, by its height.
 pub type Row = Below<50>;
 
-// A number of nodes of a row.
+// A node of a row, and a number of them.
+pub type Item = Below<62>;
+
 pub type InRow = Below<63>;
 
 // A number of nodes or elements from below.
@@ -32,8 +34,33 @@ pub type Raised = Below<65>;
 // A number of nodes that go up.
 pub type Rising = Below<201>;
 
-// A number of flat slots.
-pub type FlatSlots = Below<200001>;
+// A place among the nodes that go up or the flat slots, or past them.
+pub type Spot = Below<200001>;
+
+// A word of the area, by what it holds.
+#[derive(Clone, Copy)]
+pub enum Entry {
+    Len(Row),
+    Place(Row),
+    Node(Row, Item),
+    Raised(Spot),
+    Flat(Spot),
+}
+
+impl Entry {
+    // The word's place in the area.
+    fn at(self) -> usize
+        ensures { result ≡ entry_at self }
+    {
+        match self {
+            Entry::Len(j) => j.at * WIDTH,
+            Entry::Place(j) => j.at * WIDTH + 1,
+            Entry::Node(j, i) => j.at * WIDTH + 2 + i.at,
+            Entry::Raised(t) => NODES + t.at,
+            Entry::Flat(t) => FLAT + t.at,
+        }
+    }
+}
 
 // A gap among the flat slots: so many for the nodes from below, from slot `at` on.
 #[derive(Clone, Copy)]
@@ -46,7 +73,7 @@ pub struct Gap {
 impl Gap {
     // The flat slot t, or the one past the gap where that begins there.
     #[tactic(auto, unfolding(crate::specs::Packs::next_flat))]
-    pub(crate) fn past(self, t: FlatSlots) -> usize
+    pub(crate) fn past(self, t: Spot) -> usize
         ensures next { result ≡ next_flat t.at self.at self.len.at }
         ensures near { result ≤ t.at + self.len.at }
     {
@@ -71,18 +98,18 @@ impl Area<'_> {
         self.words.fill(0);
     }
 
-    // Word i of the area; 0 past its end.
-    pub(crate) fn get(&self, i: usize) -> u64
-        ensures { result ≡ slice_index self.now.words.now i }
+    // A word of the area; 0 past its end.
+    pub(crate) fn get(&self, e: Entry) -> u64
+        ensures { result ≡ slice_index self.now.words.now (entry_at e) }
     {
-        self.words.get(i).copied().unwrap_or(0)
+        self.words.get(e.at()).copied().unwrap_or(0)
     }
 
-    // Stores word i of the area; past its end nothing.
-    pub(crate) fn put(&mut self, i: usize, x: u64)
-        ensures { Stores self.old self.new (slice_set self.old.words.now i x) }
+    // Stores a word of the area; past its end nothing.
+    pub(crate) fn put(&mut self, e: Entry, x: u64)
+        ensures { Stores self.old self.new (slice_set self.old.words.now (entry_at e) x) }
     {
-        node::leaf_add(&mut *self.words, i, x);
+        node::leaf_add(&mut *self.words, e.at(), x);
     }
 
     // The nodes in row j.
@@ -90,49 +117,34 @@ impl Area<'_> {
         ensures { result.at ≡ row_len self.now.words.now j.at }
     {
         InRow {
-            at: (self.get(j.at * WIDTH) as usize).min(62),
+            at: (self.get(Entry::Len(j)) as usize).min(62),
         }
-    }
-
-    #[tactic(auto, unfolding(crate::specs::Areas::set_row_len))]
-    pub(crate) fn set_row_len(&mut self, j: Row, n: usize)
-        ensures { Stores self.old self.new (set_row_len self.old.words.now j.at n) }
-    {
-        self.put(j.at * WIDTH, n as u64);
     }
 
     // The slots of row j before which the nodes from below go.
     pub(crate) fn row_place(&self, j: Row) -> usize
         ensures { result ≡ row_place self.now.words.now j.at }
     {
-        (self.get(j.at * WIDTH + 1) as usize).min(2048)
-    }
-
-    #[tactic(auto, unfolding(crate::specs::Areas::set_row_place))]
-    pub(crate) fn set_row_place(&mut self, j: Row, p: usize)
-        ensures { Stores self.old self.new (set_row_place self.old.words.now j.at p) }
-    {
-        self.put(j.at * WIDTH + 1, p as u64);
+        (self.get(Entry::Place(j)) as usize).min(2048)
     }
 
     // Node i of row j.
     #[tactic(auto, unfolding(crate::specs::Areas::item_of))]
-    pub(crate) fn item(&self, j: Row, i: usize) -> usize
-        requires { i < 62 }
-        ensures { result ≡ item_of self.now.words.now j.at i }
+    pub(crate) fn item(&self, j: Row, i: Item) -> usize
+        ensures { result ≡ item_of self.now.words.now j.at i.at }
     {
-        self.get(j.at * WIDTH + 2 + i) as usize
+        self.get(Entry::Node(j, i)) as usize
     }
 
     // Adds block b to row j, while there is room.
-    #[tactic(auto, unfolding(crate::specs::Areas::add_item))]
+    #[tactic(auto, unfolding(crate::specs::Areas::add_item, crate::specs::Areas::set_row_len))]
     pub(crate) fn add_item(&mut self, j: Row, b: usize)
         ensures { Stores self.old self.new (add_item self.old.words.now j.at b) }
     {
         let n = self.row_len(j).at;
         if n < 62 {
-            self.put(j.at * WIDTH + 2 + n, b as u64);
-            self.set_row_len(j, n + 1);
+            self.put(Entry::Node(j, Item { at: n }), b as u64);
+            self.put(Entry::Len(j), (n + 1) as u64);
         }
     }
 
@@ -142,8 +154,8 @@ impl Area<'_> {
         ensures { Stores self.old self.new (lay_nodes self.old.words.now gap.at gap.len.at 0) }
     {
         for i in 0..gap.len.at {
-            let x = self.get(NODES + i);
-            self.put(FLAT + gap.at + i, x);
+            let x = self.get(Entry::Raised(Spot { at: i }));
+            self.put(Entry::Flat(Spot { at: gap.at + i }), x);
         }
     }
 
@@ -152,17 +164,18 @@ impl Area<'_> {
     pub(crate) fn keep(&mut self, j: Row, k: usize, end: InRow, out: Rising)
         ensures { Stores self.old self.new (keep_of self.old.words.now j.at (end.at - k) k out.at) }
     {
-        for i in k..end.at {
-            let b = self.item(j, i);
-            self.put(NODES + out.at + (i - k), b as u64);
+        for at in k..end.at {
+            let b = self.item(j, Item { at });
+            let up = out.at + (at - k);
+            self.put(Entry::Raised(Spot { at: up }), b as u64);
         }
     }
 
     // The m flat slots from t on, where they are there.
-    pub(crate) fn flat(&self, t: FlatSlots, m: Count) -> Option<Slots<'_>>
+    pub(crate) fn flat(&self, t: Spot, m: Count) -> Option<Slots<'_>>
         ensures { MatchOption result (length self.now.words.now < flat_at t.at + m.at) (λ s. (flat_at t.at + m.at ≤ length self.now.words.now) × (s.words.now ≡ slice_range self.now.words.now (flat_at t.at) (flat_at t.at + m.at))) }
     {
-        let start = FLAT + t.at;
+        let start = Entry::Flat(t).at();
         let end = start + m.at;
         if end <= self.words.len() {
             return Some(Slots {
@@ -173,11 +186,11 @@ impl Area<'_> {
     }
 
     // Words go up, after the first out.
-    pub(crate) fn lift(&mut self, words: &[u64], out: Count)
-        ensures { Stores self.old self.new (sets self.old.words.now (node_at out.at) words.now) }
+    pub(crate) fn lift(&mut self, src: Slots<'_>, out: Count)
+        ensures { Stores self.old self.new (sets self.old.words.now (node_at out.at) src.entry.words.now) }
     {
-        for (i, x) in words.iter().enumerate() {
-            self.put(NODES + out.at + i, *x);
+        for (i, x) in src.words.iter().enumerate() {
+            self.put(Entry::Raised(Spot { at: out.at + i }), *x);
         }
     }
 }

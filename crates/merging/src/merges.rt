@@ -4,7 +4,7 @@ ghost use Rattle.merging.specs.Areas.{node_at};
 ghost use Rattle.merging.specs.Lent.{on, Holds, Becomes, Packs, Joins};
 ghost use Rattle.merging.specs.Merges.{add_items, row_slots, collect_of, collect_both, lift_leaf, lift_leaves, merge_level, merge_of};
 
-use crate::areas::{NODES, Row};
+use crate::areas::{Entry, Item, Row, Spot};
 use crate::spines::Others;
 use crate::{Lent, Pair};
 use levels::{Count, Shift, Slot};
@@ -35,8 +35,8 @@ impl Lent<'_, '_> {
         ensures { result ≡ row_slots self.now.pool.words.now self.now.area.words.now j.at }
     {
         let mut sum: usize = 0;
-        for i in 0..self.area.row_len(j).at {
-            sum += self.count(j, i);
+        for at in 0..self.area.row_len(j).at {
+            sum += self.count(j, Item { at });
         }
         sum
     }
@@ -59,13 +59,13 @@ impl Lent<'_, '_> {
     }
 
     // Both spines' nodes go into row j, the left ones first; its place is after those.
-    #[tactic(auto, unfolding(crate::specs::Merges::collect_both))]
+    #[tactic(auto, unfolding(crate::specs::Merges::collect_both, crate::specs::Areas::set_row_place))]
     fn collect_both(&mut self, j: Row, l: Option<Others>, r: Option<Others>)
         ensures { Becomes self.old self.new (on collect_both self.old j.at l r) }
     {
         self.collect(j, l);
         let p = self.row_slots(j);
-        self.area.set_row_place(j, p);
+        self.area.put(Entry::Place(j), p as u64);
         self.collect(j, r);
     }
 
@@ -85,7 +85,7 @@ impl Lent<'_, '_> {
         let t = tail.words.len();
         let n = self.pool.block(r).count();
         if 0 < t {
-            self.area.lift(tail.words, Count { at: 0 });
+            self.area.lift(tail, Count { at: 0 });
             self.lift_leaf(r, Count { at: t });
             self.pool.release(r);
             return t + n;
@@ -138,7 +138,7 @@ impl Lent<'_, '_> {
         ensures shift { result.shift ≡ record { 0 = min height 48 * 5 } }
     {
         Merged {
-            root: self.area.get(NODES) as usize,
+            root: self.area.get(Entry::Raised(Spot { at: 0 })) as usize,
             shift: Shift::at(height),
         }
     }

@@ -9,7 +9,7 @@ ghost use Rattle.merging.specs.Lent.{on, Holds, Becomes, Packs};
 ghost use Rattle.merging.specs.Packs.{lead_from, pour_out, block_for, write_node, pour_in, release_items, pour_of, stays_whole, raise_nodes, raise_rest, insert_whole, insert_poured, insert_of, squeeze_of};
 
 use crate::Lent;
-use crate::areas::{FLAT, FlatSlots, Gap, InRow, NODES, Raised, Rising, Row};
+use crate::areas::{Entry, Gap, InRow, Item, Raised, Rising, Row, Spot};
 use blocks::Pool;
 use levels::{Count, Shift, Slot};
 use node::Slots;
@@ -32,9 +32,8 @@ fn fill_node(pool: &mut Pool<'_>, b: usize, src: Slots<'_>, m: Count, j: Row)
 
 impl Lent<'_, '_> {
     // The slots of node i of row j.
-    pub(crate) fn count(&self, j: Row, i: usize) -> usize
-        requires { i < 62 }
-        ensures { result ≡ count_of self.now.pool.words.now (item_of self.now.area.words.now j.at i) }
+    pub(crate) fn count(&self, j: Row, i: Item) -> usize
+        ensures { result ≡ count_of self.now.pool.words.now (item_of self.now.area.words.now j.at i.at) }
     {
         self.pool.block(self.area.item(j, i)).count()
     }
@@ -47,7 +46,7 @@ impl Lent<'_, '_> {
         ensures high { result.at ≤ max k.at end.at }
     {
         for at in k.at..end.at {
-            if self.count(j, at) != 32 {
+            if self.count(j, Item { at }) != 32 {
                 return InRow { at };
             }
         }
@@ -57,24 +56,24 @@ impl Lent<'_, '_> {
     }
 
     // Lays the slots of row j's nodes from k on flat, with a gap. Where they end.
-    fn pour_out(&mut self, j: Row, k: InRow, gap: Gap) -> FlatSlots
+    fn pour_out(&mut self, j: Row, k: InRow, gap: Gap) -> Spot
         ensures end { result.at ≡ (pour_out self.old.pool.words.now self.old.area.words.now j.at k.at gap.at gap.len.at).0 }
         ensures lent { Holds self.old self.new self.old.pool.state self.old.pool.words.now (pour_out self.old.pool.words.now self.old.area.words.now j.at k.at gap.at gap.len.at).1 }
     {
-        let mut t = gap.past(FlatSlots { at: 0 });
+        let mut t = gap.past(Spot { at: 0 });
         'nodes: for i in k.at..self.area.row_len(j).at {
-            let b = self.area.item(j, i);
+            let b = self.area.item(j, Item { at: i });
             let m = self.pool.block(b).count();
             for at in 0..32 {
                 if m <= at {
                     continue 'nodes;
                 }
                 let x = self.pool.block(b).slot(Slot { at });
-                self.area.put(FLAT + t, x);
-                t = gap.past(FlatSlots { at: t + 1 });
+                self.area.put(Entry::Flat(Spot { at: t }), x);
+                t = gap.past(Spot { at: t + 1 });
             }
         }
-        FlatSlots { at: t }
+        Spot { at: t }
     }
 
     // A block for a node: the row's node i, or a free one.
@@ -84,14 +83,14 @@ impl Lent<'_, '_> {
         ensures lent { Holds self.old self.new (on block_for self.old j.at i).state self.old.pool.words.now self.old.area.words.now }
     {
         if i < self.area.row_len(j).at {
-            return self.area.item(j, i);
+            return self.area.item(j, Item { at: i });
         }
         self.pool.alloc()
     }
 
     // Makes block b a node of height j of the m flat slots from t on.
     #[tactic(auto, unfolding(crate::specs::Packs::write_node))]
-    fn write_node(&mut self, b: usize, t: FlatSlots, m: Count, j: Row)
+    fn write_node(&mut self, b: usize, t: Spot, m: Count, j: Row)
         ensures { Holds self.old self.new self.old.pool.state (write_node self.old.pool.words.now self.old.area.words.now b t.at m.at j.at) self.old.area.words.now }
     {
         if let Some(src) = self.area.flat(t, m) {
@@ -101,7 +100,7 @@ impl Lent<'_, '_> {
 
     // Pours so many flat slots into the row's nodes from k on, and new ones after them; they go up after the first out.
     #[tactic(auto, using(crate::specs::Packs::pour_at, crate::specs::Packs::pour_end), unfolding(crate::specs::Packs::pour_in))]
-    fn pour_in(&mut self, j: Row, k: InRow, total: FlatSlots, out: Rising) -> usize
+    fn pour_in(&mut self, j: Row, k: InRow, total: Spot, out: Rising) -> usize
         ensures { Packs self.old self.new result (on pour_in self.old j.at k.at total.at out.at) }
     {
         let n = total.at.div_ceil(32);
@@ -110,8 +109,9 @@ impl Lent<'_, '_> {
             let m = Count {
                 at: (total.at - i * 32).min(32),
             };
-            self.write_node(b, FlatSlots { at: i * 32 }, m, j);
-            self.area.put(NODES + out.at + i, b as u64);
+            self.write_node(b, Spot { at: i * 32 }, m, j);
+            let up = out.at + i;
+            self.area.put(Entry::Raised(Spot { at: up }), b as u64);
         }
         out.at + n
     }
@@ -121,15 +121,15 @@ impl Lent<'_, '_> {
     fn release_items(&mut self, j: Row, k: usize)
         ensures { Holds self.old self.new (on release_items self.old j.at k).0 (on release_items self.old j.at k).1 self.old.area.words.now }
     {
-        for i in k..self.area.row_len(j).at {
-            let b = self.area.item(j, i);
+        for at in k..self.area.row_len(j).at {
+            let b = self.area.item(j, Item { at });
             self.pool.release(b);
         }
     }
 
     // Pours so many flat slots as above, after what is left over of the row's nodes was released.
     #[tactic(auto, unfolding(crate::specs::Packs::pour_of))]
-    fn pour(&mut self, j: Row, k: InRow, total: FlatSlots, out: Rising) -> usize
+    fn pour(&mut self, j: Row, k: InRow, total: Spot, out: Rising) -> usize
         ensures { Packs self.old self.new result (on pour_of self.old j.at k.at total.at out.at) }
     {
         self.release_items(j, k.at + total.at.div_ceil(32));
@@ -144,7 +144,7 @@ impl Lent<'_, '_> {
         let n = self.area.row_len(j);
         self.area.lay_nodes(Gap { at: 0, len: c });
         self.area.keep(j, 0, k, Rising { at: 0 });
-        self.pour_in(j, n, FlatSlots { at: c.at }, Rising { at: k.at });
+        self.pour_in(j, n, Spot { at: c.at }, Rising { at: k.at });
     }
 
     // The nodes k..l of row j go up after the first out, and after them what the others are poured into.
@@ -201,11 +201,11 @@ impl Lent<'_, '_> {
     }
 
     // Packs the nodes of row j: full ones at the start stay whole, the others are poured.
-    #[tactic(auto, unfolding(crate::specs::Packs::squeeze_of))]
+    #[tactic(auto, unfolding(crate::specs::Packs::squeeze_of, crate::specs::Areas::set_row_len))]
     pub(crate) fn squeeze(&mut self, j: Row)
         ensures { Becomes self.old self.new (on squeeze_of self.old j.at) }
     {
         let n = self.insert_whole(j, InRow { at: 0 }, Raised { at: 0 });
-        self.area.set_row_len(j, n);
+        self.area.put(Entry::Len(j), n as u64);
     }
 }

@@ -61,21 +61,23 @@ pub fn leaf_new(pool: &mut Pool<'_>, src: Slots<'_>) -> usize
 
 // The slots in use of block b.
 #[tactic(auto, using(crate::specs::Leaves::slots_in, crate::specs::Leaves::slots_out))]
-pub fn in_use<'a>(b: Block<'a>) -> &'a [u64]
-    ensures { result.now ≡ read slots_from b.entry 0 (read count_of b.entry) }
+pub fn in_use<'a>(b: Block<'a>) -> Slots<'a>
+    ensures { result.words.now ≡ read slots_from b.entry 0 (read count_of b.entry) }
 {
     if b.number < blocks::total(b.pool) {
         let start = b.number * blocks::WORDS + blocks::SLOTS;
-        return &b.pool[start..start + b.count()];
+        return Slots {
+            words: &b.pool[start..start + b.count()],
+        };
     }
-    &[]
+    Slots { words: &[] }
 }
 
 // The elements of a leaf, and zeros after them.
 pub fn leaf_take(b: Block<'_>) -> [u64; 32]
     ensures { result ≡ read take_of b.entry }
 {
-    let elements = in_use(b);
+    let elements = in_use(b).words;
     let mut out = [0u64; 32];
     out[..elements.len()].copy_from_slice(elements);
     out

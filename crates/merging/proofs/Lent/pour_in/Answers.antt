@@ -1,5 +1,6 @@
 -- `merging::Lent::pour_in`: the nodes still to be written, on the words so far, are those of the whole; the slots left are the total less 32 for each node.
 use Rattle.std.proofs.Common.{◌≡◌, ◌+◌, ◌-◌, ◌*◌, ◌<◌, min, ◌∙◌, refl, arith}
+use Rattle.merging.specs.Areas.{node_at}
 use Rattle.merging.specs.Lent.{on}
 use Rattle.merging.specs.Packs.{block_for, pour_at}
 use Rattle.merging.proofs.Lent.pour_in.Goals as goal
@@ -15,11 +16,12 @@ loop-i-preserved c =
     let p : 0 < left = omega (arith, c.div_ceil-n.ensures, c.loop-i-test.true) in
     let e : a.total.at - (l.i + 1) * 32 ≡ left - min 32 left = omega arith in
     let m : c.min.result ≡ min 32 left = omega (arith, c.min.ensures) in
+    let up : node_at a.out.at + l.i ≡ node_at (a.out.at + l.i) = omega arith in
     let b = c.block_for-b.ensures in
     let w = c.write_node.ensures in (
       v.0 - 1,
       omega (arith, v.1, e),
       w.0.0 ∙ b.lent.0.0 ∙ v.2,
       c.put.ensures.0 ∙ w.1.0 ∙ b.lent.1.0 ∙ v.3,
-      v.4 ∙ pour_at s.pool.words.now s.pool.state s.area.words.now a.j.at a.k.at a.out.at left l.i v.0 p v.1 g (min 32 left) refl refl ∙ rw (c.put.ensures.1, w.1.1, w.0.1, w.0.2, b.block, b.lent.0.1, b.lent.0.2, b.lent.1.1, m, e),
+      v.4 ∙ pour_at s.pool.words.now s.pool.state s.area.words.now a.j.at a.k.at a.out.at left l.i v.0 p v.1 g (min 32 left) refl refl ∙ rw (c.put.ensures.1, w.1.1, w.0.1, w.0.2, b.block, b.lent.0.1, b.lent.0.2, b.lent.1.1, m, e, up),
     )

@@ -4,9 +4,9 @@ use Rattle.merging.specs.Areas.{Stores}
 use Rattle.merging.specs.Packs.{release_from}
 use Rattle.merging.proofs.Lent.release_items.Given as goal
 
-abbrev pub invariant-loop-i : goal.invariant-loop-i
-invariant-loop-i l =
+abbrev pub invariant-loop-at : goal.invariant-loop-at
+invariant-loop-at l =
     let old = l.initial.self in
     let new = l.self in
     let w = old.area.words.now in
-    Stores old.area new.area w × (new.pool.words.ghost_name ≡ old.pool.words.ghost_name) × (release_from (l.i-end - l.k) old.pool.words.now old.pool.state w l.j.at l.k ≡ release_from (l.i-end - l.i) new.pool.words.now new.pool.state w l.j.at l.i)
+    Stores old.area new.area w × (new.pool.words.ghost_name ≡ old.pool.words.ghost_name) × (release_from (l.at-end - l.k) old.pool.words.now old.pool.state w l.j.at l.k ≡ release_from (l.at-end - l.at) new.pool.words.now new.pool.state w l.j.at l.at)

@@ -3,8 +3,8 @@ use Rattle.std.proofs.Common.{◌≡◌, ◌+◌, ◌-◌, ◌*◌, ◌≤◌}
 use Rattle.merging.specs.Merges.{slots_sum}
 use Rattle.merging.proofs.Lent.row_slots.Given as goal
 
-abbrev pub invariant-loop-i : goal.invariant-loop-i
-invariant-loop-i l =
+abbrev pub invariant-loop-at : goal.invariant-loop-at
+invariant-loop-at l =
     let ws = l.self.pool.words.now in
     let w = l.self.area.words.now in
-    (l.sum ≤ l.i * 32) × (slots_sum ws w l.j.at l.i-end 0 ≡ l.sum + slots_sum ws w l.j.at (l.i-end - l.i) l.i)
+    (l.sum ≤ l.at * 32) × (slots_sum ws w l.j.at l.at-end 0 ≡ l.sum + slots_sum ws w l.j.at (l.at-end - l.at) l.at)

@@ -6,4 +6,4 @@ use Rattle.merging.proofs.areas.Area.lift.Given as goal
 
 abbrev pub invariant-loop-i : goal.invariant-loop-i
 invariant-loop-i l =
-    (l.self.words.ghost_name ≡ l.initial.self.words.ghost_name) × (sets l.initial.self.words.now (node_at l.out.at) l.words ≡ sets l.self.words.now (node_at l.out.at + l.i) (drop l.i l.words))
+    (l.self.words.ghost_name ≡ l.initial.self.words.ghost_name) × (sets l.initial.self.words.now (node_at l.out.at) l.src.words.now ≡ sets l.self.words.now (node_at l.out.at + l.i) (drop l.i l.src.words.now))
