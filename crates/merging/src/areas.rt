@@ -189,8 +189,6 @@ impl Area<'_> {
     pub(crate) fn lift(&mut self, src: Slots<'_>, out: Count)
         ensures { Stores self.old self.new (sets self.old.words.now (node_at out.at) src.entry.words.now) }
     {
-        for (i, x) in src.words.iter().enumerate() {
-            self.put(Entry::Raised(Spot { at: out.at + i }), *x);
-        }
+        node::leaf_merge(&mut *self.words, NODES + out.at, src.words);
     }
 }

@@ -3,6 +3,7 @@ use Rattle.std.specs.Prelude.{◌≡◌, ℕ, zero, suc, ◌+◌, ◌-◌, ◌*�
 use Rattle.std.proofs.Common.{sym, ◌∙◌, ap, append_assoc, add-one, arith, lt-ltb, le-ltb, length-set, take-append-drop, drop-drop, drop-cons}
 use borrow.Rule.Slice.PartMut.{mid_of, post_of, put_mid, mid_len}
 use Rattle.std.proofs.lemmas.List.Edits.{sets, sets-eq}
+use Rattle.std.proofs.Math.Seq.{set_out}
 use Rattle.std.proofs.lemmas.List.{set_at, drop-append-le}
 use Rattle.blocks.specs.Words.{word_of, put_of, count_of, slot_of}
 
@@ -60,6 +61,11 @@ taken_more ws b i h =
     let xs = slots_from ws b 0 i in
     rw (e, slots_more ws b 0 i, z, append_assoc xs (slot_of ws b i ∷ []) (replicate (32 - (i + 1)) 0))
     (set_at xs 0 (replicate (32 - (i + 1)) 0) (slot_of ws b i) i (length-slots ws b 0 i))
+
+-- past the end of a list nothing is stored
+pub sets_out : (ws : List ℕ) (n : ℕ) (xs : List ℕ) → length ws ≤ n → sets ws n xs ≡ ws
+sets_out ws n [] h = refl
+sets_out ws n (x ∷ xs) h = rw (set_out ws n x h) (sets_out ws (suc n) xs (omega arith))
 
 pub store_in : (ws : List ℕ) (b j : ℕ) (xs : List ℕ) → b < length ws / 66 → store_of ws b j xs ≡ sets ws (b * 66 + j) xs
 unfolding store_of put_of

@@ -8,7 +8,6 @@ ghost use Rattle.blocks.specs.Pools.{on, Gives};
 ghost use Rattle.node.specs.Leaves.{slots_from, store_of, leaf_of, take_of};
 
 use blocks::{Block, Field, Kind, Pool};
-use levels::{Count, Slot};
 
 // Words for the slots of a node.
 #[derive(Clone, Copy)]
@@ -27,11 +26,14 @@ pub fn leaf_add(part: &mut [u64], i: usize, x: u64)
 }
 
 // Stores the words of src after the first n of the part, as many as there is room for.
-pub fn leaf_merge(part: &mut [u64], n: Count, src: &[u64])
-    ensures { part.new ≡ sets part.old n.at src.now }
+#[tactic(auto, using(crate::specs::Leaves::sets_out))]
+pub fn leaf_merge(part: &mut [u64], n: usize, src: &[u64])
+    ensures { part.new ≡ sets part.old n src.now }
 {
-    for (i, x) in src.iter().enumerate() {
-        leaf_add(part, n.at + i, *x);
+    if n < part.len() {
+        for (i, x) in src.iter().enumerate() {
+            leaf_add(part, n + i, *x);
+        }
     }
 }
 
@@ -43,7 +45,7 @@ pub fn slots_fill(pool: &mut [u64], b: usize, src: Slots<'_>)
     if b < blocks::total(pool) {
         let start = b * blocks::WORDS + blocks::SLOTS;
         let end = start + 32;
-        leaf_merge(&mut pool[start..end], Count { at: 0 }, src.words);
+        leaf_merge(&mut pool[start..end], 0, src.words);
     }
 }
 

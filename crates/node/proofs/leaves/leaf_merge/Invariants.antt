@@ -4,4 +4,4 @@ use lib.Seq.{sets}
 use Rattle.node.proofs.leaves.leaf_merge.Given as goal
 
 abbrev pub invariant-loop-i : goal.invariant-loop-i
-invariant-loop-i l = sets l.initial.part l.n.at l.src ≡ sets l.part (l.n.at + l.i) (drop l.i l.src)
+invariant-loop-i l = sets l.initial.part l.n l.src ≡ sets l.part (l.n + l.i) (drop l.i l.src)
