@@ -189,6 +189,7 @@ impl Area<'_> {
     pub(crate) fn lift(&mut self, src: Slots<'_>, out: Count)
         ensures { Stores self.old self.new (sets self.old.words.now (node_at out.at) src.entry.words.now) }
     {
-        node::leaf_merge(&mut *self.words, NODES + out.at, src.words);
+        let start = Entry::Raised(Spot { at: out.at }).at();
+        node::leaf_merge(&mut *self.words, start, src.words);
     }
 }
