@@ -1,5 +1,5 @@
 // Leaf pop: node pop, dense pop and relaxed pop call each other while the shift falls.
-ghost use Rattle.std.specs.Prelude.{◌≡◌, ◌-◌, ◌/◌, ◌≤◌, true, false};
+ghost use Rattle.std.specs.Prelude.{◌-◌, ◌/◌, ◌≤◌, true, false};
 ghost use Rattle.blocks.specs.Pools.{on};
 ghost use Rattle.rrbtree.specs.Pops.{popped, Takes, take_leaf, drop_kid, branch_pop, node_pop, pop_of};
 

@@ -1,5 +1,5 @@
 -- `node::leaves::leaf_take`: the slots in use come first, and zeros are left after them.
-use Rattle.std.proofs.Common.{◌≡◌, ℕ, length}
+use Rattle.std.proofs.Common.{ℕ, length}
 use Rattle.std.proofs.lemmas.List.{drop-replicate}
 use Rattle.node.specs.Leaves.{take_of, length-slots}
 use Rattle.node.proofs.leaves.leaf_take.Goals as goal

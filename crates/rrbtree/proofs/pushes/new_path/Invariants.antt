@@ -1,5 +1,4 @@
 -- `rrbtree::pushes::new_path`: after h turns h branches stand over the leaf.
-use Rattle.std.proofs.Common.{◌≡◌}
 use Rattle.blocks.specs.Pools.{on, Gives}
 use Rattle.rrbtree.specs.Pushes.{path_of}
 use Rattle.rrbtree.proofs.pushes.new_path.Given as goal
