@@ -8,7 +8,7 @@ mod views;
 ghost use Rattle.std.specs.Prelude.{◌≡◌, ◌/◌, length};
 ghost use Rattle.blocks.specs.Words.{put_of};
 ghost use Rattle.blocks.specs.Fields.{place_of};
-ghost use Rattle.blocks.specs.Chain.{chained_of, free_count_of};
+ghost use Rattle.blocks.specs.Chain.{alloc_of, on_chain, release_of, chained_of, free_count_of};
 
 pub use fields::{Field, Kind};
 pub use pools::Pool;
@@ -31,6 +31,30 @@ pub const SIZES: usize = 34;
 pub struct State {
     pub free: u64,
     pub promised: u64,
+}
+
+impl State {
+    // Takes the first block off the chain.
+    #[tactic(auto, unfolding(crate::specs::Chain::alloc_of))]
+    pub fn alloc(&mut self, pool: &[u64]) -> usize
+        ensures block { result ≡ (alloc_of pool.now self.old).block }
+        ensures state { self.new ≡ (alloc_of pool.now self.old).state }
+    {
+        let b = self.free as usize;
+        self.free = Block::new(pool, b).word(Field::Count);
+        b
+    }
+
+    // Puts block b on the chain.
+    #[tactic(auto, unfolding(crate::specs::Chain::release_of))]
+    pub fn release(&mut self, pool: &mut [u64], b: usize)
+        ensures state { self.new ≡ on_chain self.old b }
+        ensures words { pool.new ≡ release_of pool.old self.old b }
+    {
+        put(pool, b, Field::Kind, Kind::Free.into());
+        put(pool, b, Field::Count, self.free);
+        self.free = b as u64;
+    }
 }
 
 // How many blocks a pool has.

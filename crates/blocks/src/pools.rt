@@ -5,7 +5,7 @@ ghost use Rattle.blocks.specs.Fields.{place_of};
 ghost use Rattle.blocks.specs.Chain.{alloc_of, on_chain, release_of};
 ghost use Rattle.blocks.specs.Pools.{on, Leaves, Gives};
 
-use crate::{Block, Field, Kind, State};
+use crate::{Block, Field, State};
 
 // The words of a lent pool, and its state record.
 #[derive(Drop)]
@@ -36,22 +36,16 @@ impl Pool<'_> {
     }
 
     // Takes the first block off the chain.
-    #[tactic(auto, unfolding(crate::specs::Chain::alloc_of))]
     pub fn alloc(&mut self) -> usize
         ensures { Gives self.old self.new result (on alloc_of self.old, self.old.words.now) }
     {
-        let b = self.state.free as usize;
-        self.state.free = self.block(b).word(Field::Count);
-        b
+        self.state.alloc(&mut *self.words)
     }
 
     // Puts block b on the chain.
-    #[tactic(auto, unfolding(crate::specs::Chain::release_of))]
     pub fn release(&mut self, b: usize)
         ensures { Leaves self.old self.new (on_chain self.old.state b) (on release_of self.old b) }
     {
-        self.put(b, Field::Kind, Kind::Free.into());
-        self.put(b, Field::Count, self.state.free);
-        self.state.free = b as u64;
+        self.state.release(&mut *self.words, b);
     }
 }

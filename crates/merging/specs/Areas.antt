@@ -4,13 +4,8 @@ use Rattle.std.specs.Prelude.{◌≡◌, ℕ, suc, ◌+◌, ◌*◌, ◌<◌, mi
 use Rattle.std.proofs.Common.{append_assoc, add-one, drop-cons}
 use Rattle.std.proofs.lemmas.List.{length-replicate, replicate-append-replicate, set_at}
 use Rattle.blocks.specs.Words.{pick}
-use Rattle.merging.specs.declared.areas.Area.{Area}
 use Rattle.merging.specs.declared.areas.Entry.{Entry}
 use Rattle.merging.specs.declared.areas.Entry.TheVariants as entry
-
--- a call leaves the same area lent, with these words in it
-abbrev pub Stores : Area → Area → List ℕ → Type 0
-Stores old new words = (new.words.ghost_name ≡ old.words.ghost_name) × (new.words.now ≡ words)
 
 abbrev pub row_len : List ℕ → ℕ → ℕ
 row_len w j = min (slice_index w (j * 64)) 62

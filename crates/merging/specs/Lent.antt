@@ -2,20 +2,23 @@
 use Rattle.std.specs.Prelude.{◌≡◌, ℕ, List}
 use Rattle.std.proofs.Common.{◌∙◌}
 use Rattle.blocks.specs.declared.State.{State}
-use Rattle.blocks.specs.Pools.{Leaves}
 use Rattle.merging.specs.declared.Lent.{Lent}
-use Rattle.merging.specs.Areas.{Stores}
 use Rattle.levels.specs.declared.Shift.{Shift}
 use Rattle.merging.specs.Packs.{Out, triple_same}
 use Rattle.merging.specs.Merges.{Merged}
 
 -- a definition on words, state and area, of what is lent
 abbrev pub on : {A : Type 0} → (List ℕ → State → List ℕ → A) → Lent → A
-on f lent = f lent.pool.words.now lent.pool.state lent.area.words.now
+on f lent = f lent.words.now lent.state lent.work.now
 
--- a call leaves the same pool and area lent, with this state and these words in them
+-- a call leaves the same words and area lent, with this state and these words in them
 abbrev pub Holds : Lent → Lent → State → List ℕ → List ℕ → Type 0
-Holds old new state words area = Leaves old.pool new.pool state words × Stores old.area new.area area
+Holds old new state words work =
+    (new.words.ghost_name ≡ old.words.ghost_name) × (new.state ≡ state) × (new.words.now ≡ words) × (new.work.ghost_name ≡ old.work.ghost_name) × (new.work.now ≡ work)
+
+-- a call changes the area alone
+abbrev pub Stores : Lent → Lent → List ℕ → Type 0
+Stores old new work = Holds old new old.state old.words.now work
 
 abbrev pub Becomes : Lent → Lent → State × List ℕ × List ℕ → Type 0
 Becomes old new x = Holds old new x.0 x.1 x.2
@@ -30,10 +33,10 @@ Joins old new root shift x = (root ≡ x.0.root) × (shift ≡ x.0.shift) × Hol
 
 -- The laws by which calls follow one another: what is lent stays lent, and what it holds is what the last call left.
 pub holds_on : (a b c : Lent) {s t : State} {ws w vs v : List ℕ} → Holds a b s ws w → Holds b c t vs v → Holds a c t vs v
-holds_on a b c h k = ((k.0.0 ∙ h.0.0, k.0.1, k.0.2), (k.1.0 ∙ h.1.0, k.1.1))
+holds_on a b c h k = (k.0 ∙ h.0, k.1, k.2, k.3 ∙ h.3, k.4)
 
-pub became : (a b : Lent) (x : State × List ℕ × List ℕ) → Becomes a b x → ◌≡◌ {A = State × List ℕ × List ℕ} (b.pool.state, b.pool.words.now, b.area.words.now) x
-became a b x h = triple_same x _ _ _ (h.0.1, (h.0.2, h.1.1))
+pub became : (a b : Lent) (x : State × List ℕ × List ℕ) → Becomes a b x → ◌≡◌ {A = State × List ℕ × List ℕ} (b.state, b.words.now, b.work.now) x
+became a b x h = triple_same x _ _ _ (h.1, (h.2, h.4))
 
-pub packs_so : (a b : Lent) {n : ℕ} (x : Out) → Packs a b n x → ◌≡◌ {A = Out} (record { n = n; state = b.pool.state }, b.pool.words.now, b.area.words.now) x
-packs_so a b x h = triple_same x _ _ _ ((λ i. record { n = h.0 i; state = h.1.0.1 i }), (h.1.0.2, h.1.1.1))
+pub packs_so : (a b : Lent) {n : ℕ} (x : Out) → Packs a b n x → ◌≡◌ {A = Out} (record { n = n; state = b.state }, b.words.now, b.work.now) x
+packs_so a b x h = triple_same x _ _ _ ((λ i. record { n = h.0 i; state = h.1.1 i }), (h.1.2, h.1.4))

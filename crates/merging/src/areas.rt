@@ -1,9 +1,11 @@
 // The lent work area: a row of nodes for each height, the nodes from below, and slots laid flat.
 ghost use Rattle.std.specs.Prelude.{◌≡◌, ◌+◌, ◌-◌, ◌<◌, ◌≤◌, length, replicate, slice_index, slice_range, slice_set, MatchOption};
 ghost use Rattle.std.proofs.lemmas.List.Edits.{sets};
-ghost use Rattle.merging.specs.Areas.{Stores, entry_at, row_len, row_place, item_of, add_item, node_at, flat_at};
+ghost use Rattle.merging.specs.Areas.{entry_at, row_len, row_place, item_of, add_item, node_at, flat_at};
+ghost use Rattle.merging.specs.Lent.{Stores};
 ghost use Rattle.merging.specs.Packs.{next_flat, lay_nodes, keep_of};
 
+use crate::Lent;
 use levels::{Below, Count};
 use node::Slots;
 
@@ -84,37 +86,60 @@ impl Gap {
     }
 }
 
-// A lent work area.
-#[derive(Drop)]
-pub struct Area<'a> {
-    pub words: &'a mut [u64],
+// The whole area zero.
+pub fn clear(work: &mut [u64])
+    ensures { work.new ≡ replicate (length work.old) 0 }
+{
+    work.fill(0);
 }
 
-impl Area<'_> {
+// The m flat slots from t on, where they are there.
+pub(crate) fn flat<'a>(work: &'a [u64], t: Spot, m: Count) -> Option<Slots<'a>>
+    ensures { MatchOption result (length work.now < flat_at t.at + m.at) (λ s. (flat_at t.at + m.at ≤ length work.now) × (s.words.now ≡ slice_range work.now (flat_at t.at) (flat_at t.at + m.at))) }
+{
+    let start = Entry::Flat(t).at();
+    let end = start + m.at;
+    if end <= work.len() {
+        return Some(Slots {
+            words: &work[start..end],
+        });
+    }
+    None
+}
+
+// Words go up, after the first out.
+pub(crate) fn lift(work: &mut [u64], src: Slots<'_>, out: Count)
+    ensures { work.new ≡ sets work.old (node_at out.at) src.entry.words.now }
+{
+    let start = Entry::Raised(Spot { at: out.at }).at();
+    node::leaf_merge(work, start, src.words);
+}
+
+impl Lent<'_, '_> {
     // The whole area zero.
-    pub fn clear(&mut self)
-        ensures { Stores self.old self.new (replicate (length self.old.words.now) 0) }
+    pub(crate) fn clear_area(&mut self)
+        ensures { Stores self.old self.new (replicate (length self.old.work.now) 0) }
     {
-        self.words.fill(0);
+        clear(&mut *self.work);
     }
 
     // A word of the area; 0 past its end.
     pub(crate) fn get(&self, e: Entry) -> u64
-        ensures { result ≡ slice_index self.now.words.now (entry_at e) }
+        ensures { result ≡ slice_index self.now.work.now (entry_at e) }
     {
-        self.words.get(e.at()).copied().unwrap_or(0)
+        self.work.get(e.at()).copied().unwrap_or(0)
     }
 
     // Stores a word of the area; past its end nothing.
     pub(crate) fn put(&mut self, e: Entry, x: u64)
-        ensures { Stores self.old self.new (slice_set self.old.words.now (entry_at e) x) }
+        ensures { Stores self.old self.new (slice_set self.old.work.now (entry_at e) x) }
     {
-        node::leaf_add(&mut *self.words, e.at(), x);
+        node::leaf_add(&mut *self.work, e.at(), x);
     }
 
     // The nodes in row j.
     pub(crate) fn row_len(&self, j: Row) -> InRow
-        ensures { result.at ≡ row_len self.now.words.now j.at }
+        ensures { result.at ≡ row_len self.now.work.now j.at }
     {
         InRow {
             at: (self.get(Entry::Len(j)) as usize).min(62),
@@ -123,7 +148,7 @@ impl Area<'_> {
 
     // The slots of row j before which the nodes from below go.
     pub(crate) fn row_place(&self, j: Row) -> usize
-        ensures { result ≡ row_place self.now.words.now j.at }
+        ensures { result ≡ row_place self.now.work.now j.at }
     {
         (self.get(Entry::Place(j)) as usize).min(2048)
     }
@@ -131,7 +156,7 @@ impl Area<'_> {
     // Node i of row j.
     #[tactic(auto, unfolding(crate::specs::Areas::item_of))]
     pub(crate) fn item(&self, j: Row, i: Item) -> usize
-        ensures { result ≡ item_of self.now.words.now j.at i.at }
+        ensures { result ≡ item_of self.now.work.now j.at i.at }
     {
         self.get(Entry::Node(j, i)) as usize
     }
@@ -139,7 +164,7 @@ impl Area<'_> {
     // Adds block b to row j, while there is room.
     #[tactic(auto, unfolding(crate::specs::Areas::add_item, crate::specs::Areas::set_row_len))]
     pub(crate) fn add_item(&mut self, j: Row, b: usize)
-        ensures { Stores self.old self.new (add_item self.old.words.now j.at b) }
+        ensures { Stores self.old self.new (add_item self.old.work.now j.at b) }
     {
         let n = self.row_len(j).at;
         if n < 62 {
@@ -151,7 +176,7 @@ impl Area<'_> {
     // The first nodes from below become the flat slots of the gap.
     #[tactic(auto, using(crate::specs::Packs::lay_at, crate::specs::Packs::lay_end))]
     pub(crate) fn lay_nodes(&mut self, gap: Gap)
-        ensures { Stores self.old self.new (lay_nodes self.old.words.now gap.at gap.len.at 0) }
+        ensures { Stores self.old self.new (lay_nodes self.old.work.now gap.at gap.len.at 0) }
     {
         for i in 0..gap.len.at {
             let x = self.get(Entry::Raised(Spot { at: i }));
@@ -162,34 +187,12 @@ impl Area<'_> {
     // The nodes k..end of row j go up, after the first out.
     #[tactic(auto, using(crate::specs::Packs::keep_at, crate::specs::Packs::keep_end))]
     pub(crate) fn keep(&mut self, j: Row, k: usize, end: InRow, out: Rising)
-        ensures { Stores self.old self.new (keep_of self.old.words.now j.at (end.at - k) k out.at) }
+        ensures { Stores self.old self.new (keep_of self.old.work.now j.at (end.at - k) k out.at) }
     {
         for at in k..end.at {
             let b = self.item(j, Item { at });
             let up = out.at + (at - k);
             self.put(Entry::Raised(Spot { at: up }), b as u64);
         }
-    }
-
-    // The m flat slots from t on, where they are there.
-    pub(crate) fn flat(&self, t: Spot, m: Count) -> Option<Slots<'_>>
-        ensures { MatchOption result (length self.now.words.now < flat_at t.at + m.at) (λ s. (flat_at t.at + m.at ≤ length self.now.words.now) × (s.words.now ≡ slice_range self.now.words.now (flat_at t.at) (flat_at t.at + m.at))) }
-    {
-        let start = Entry::Flat(t).at();
-        let end = start + m.at;
-        if end <= self.words.len() {
-            return Some(Slots {
-                words: &self.words[start..end],
-            });
-        }
-        None
-    }
-
-    // Words go up, after the first out.
-    pub(crate) fn lift(&mut self, src: Slots<'_>, out: Count)
-        ensures { Stores self.old self.new (sets self.old.words.now (node_at out.at) src.entry.words.now) }
-    {
-        let start = Entry::Raised(Spot { at: out.at }).at();
-        node::leaf_merge(&mut *self.words, start, src.words);
     }
 }

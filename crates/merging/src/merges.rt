@@ -1,12 +1,14 @@
 // The merge: a recursion down both spines and up again.
 ghost use Rattle.std.specs.Prelude.{◌≡◌, ◌*◌, ◌≤◌, min, slice_index};
+ghost use Rattle.blocks.specs.Pools.{Leaves};
 ghost use Rattle.merging.specs.Areas.{node_at};
 ghost use Rattle.merging.specs.Lent.{on, Holds, Becomes, Packs, Joins};
 ghost use Rattle.merging.specs.Merges.{add_items, row_slots, collect_of, collect_both, lift_leaf, lift_leaves, merge_level, merge_of};
 
 use crate::areas::{Entry, Item, Row, Spot};
 use crate::spines::Others;
-use crate::{Lent, Pair};
+use crate::{Lent, Pair, areas};
+use blocks::{Block, Pool};
 use levels::{Count, Shift, Slot};
 use node::Slots;
 
@@ -17,25 +19,33 @@ pub struct Merged {
     pub shift: Shift,
 }
 
+// The elements of leaf b go up, after the first out.
+#[tactic(auto, using(crate::specs::Merges::leaf_sets))]
+fn lift_leaf(words: &[u64], work: &mut [u64], b: usize, out: Count)
+    ensures { work.new ≡ lift_leaf words.now work.old b out.at }
+{
+    areas::lift(work, node::in_use(Block::new(words, b)), out);
+}
+
 impl Lent<'_, '_> {
     // Adds the children from..to of block b to row j.
     #[tactic(auto, using(crate::specs::Merges::add_at, crate::specs::Merges::add_end), unfolding(crate::specs::Merges::add_items))]
     fn add_items(&mut self, j: Row, b: usize, from: usize, to: usize)
-        ensures { Holds self.old self.new self.old.pool.state self.old.pool.words.now (add_items self.old.pool.words.now self.old.area.words.now j.at b from to) }
+        ensures { Holds self.old self.new self.old.state self.old.words.now (add_items self.old.words.now self.old.work.now j.at b from to) }
     {
         for at in from..to.min(32) {
-            let kid = self.pool.block(b).child(Slot { at }).number;
-            self.area.add_item(j, kid);
+            let kid = self.block(b).child(Slot { at }).number;
+            self.add_item(j, kid);
         }
     }
 
     // The slots of the nodes of row j.
     #[tactic(auto, using(crate::specs::Merges::slots_at, crate::specs::Merges::slots_end), unfolding(crate::specs::Merges::row_slots))]
     fn row_slots(&self, j: Row) -> usize
-        ensures { result ≡ row_slots self.now.pool.words.now self.now.area.words.now j.at }
+        ensures { result ≡ row_slots self.now.words.now self.now.work.now j.at }
     {
         let mut sum: usize = 0;
-        for at in 0..self.area.row_len(j).at {
+        for at in 0..self.row_len(j).at {
             sum += self.count(j, Item { at });
         }
         sum
@@ -50,10 +60,10 @@ impl Lent<'_, '_> {
             None => {}
             Some(Others::Kids(b, from, to)) => {
                 self.add_items(j, b, from, to);
-                self.pool.release(b);
+                self.state.release(&mut *self.words, b);
             }
             Some(Others::Only(b)) => {
-                self.area.add_item(j, b);
+                self.add_item(j, b);
             }
         }
     }
@@ -65,16 +75,8 @@ impl Lent<'_, '_> {
     {
         self.collect(j, l);
         let p = self.row_slots(j);
-        self.area.put(Entry::Place(j), p as u64);
+        self.put(Entry::Place(j), p as u64);
         self.collect(j, r);
-    }
-
-    // The elements of leaf b go up, after the first out.
-    #[tactic(auto, using(crate::specs::Merges::leaf_sets))]
-    fn lift_leaf(&mut self, b: usize, out: Count)
-        ensures { Holds self.old self.new self.old.pool.state self.old.pool.words.now (lift_leaf self.old.pool.words.now self.old.area.words.now b out.at) }
-    {
-        self.area.lift(node::in_use(self.pool.block(b)), out);
     }
 
     // The elements of the two leaves that meet go up; a tail stands for the left one.
@@ -83,18 +85,18 @@ impl Lent<'_, '_> {
         ensures { Packs self.old self.new result (on lift_leaves self.old tail.entry.words.now l r) }
     {
         let t = tail.words.len();
-        let n = self.pool.block(r).count();
+        let n = self.block(r).count();
         if 0 < t {
-            self.area.lift(tail, Count { at: 0 });
-            self.lift_leaf(r, Count { at: t });
-            self.pool.release(r);
+            areas::lift(&mut *self.work, tail, Count { at: 0 });
+            lift_leaf(&mut *self.words, &mut *self.work, r, Count { at: t });
+            self.state.release(&mut *self.words, r);
             return t + n;
         }
-        let m = self.pool.block(l).count();
-        self.lift_leaf(l, Count { at: 0 });
-        self.lift_leaf(r, Count { at: m });
-        self.pool.release(l);
-        self.pool.release(r);
+        let m = self.block(l).count();
+        lift_leaf(&mut *self.words, &mut *self.work, l, Count { at: 0 });
+        lift_leaf(&mut *self.words, &mut *self.work, r, Count { at: m });
+        self.state.release(&mut *self.words, l);
+        self.state.release(&mut *self.words, r);
         m + n
     }
 
@@ -107,21 +109,21 @@ impl Lent<'_, '_> {
             return self.lift_leaves(tail, p.left.block, p.right.block);
         }
         let row = Row { at: p.top - 1 };
-        let l = p.left.beside(self.pool.words(), p.top);
-        let r = p.right.beside(self.pool.words(), p.top);
-        let below = p.below(self.pool.words());
+        let l = p.left.beside(self.words(), p.top);
+        let r = p.right.beside(self.words(), p.top);
+        let below = p.below(self.words());
         self.collect_both(row, l, r);
         self.squeeze(row);
         let n = self.merge_level(tail, below);
         self.insert(row, n)
     }
 
-    // Merges the pair of trees, the left one with its tail.
-    pub fn merge(&mut self, tail: Slots<'_>, p: Pair) -> Merged
+    // The merge of a pair, from its top on.
+    fn merge_pair(&mut self, tail: Slots<'_>, p: Pair) -> Merged
         requires { p.top ≤ 48 }
         ensures { Joins self.old self.new result.root result.shift (on merge_of self.old tail.entry.words.now p) }
     {
-        self.area.clear();
+        self.clear_area();
         let top = p.top;
         let c = self.merge_level(tail, p);
         let n = self.insert(Row { at: top }, c);
@@ -134,12 +136,28 @@ impl Lent<'_, '_> {
 
     // The first node that went up as the root of a tree.
     fn merged(&self, height: usize) -> Merged
-        ensures root { result.root ≡ slice_index self.now.area.words.now (node_at 0) }
+        ensures root { result.root ≡ slice_index self.now.work.now (node_at 0) }
         ensures shift { result.shift ≡ record { 0 = min height 48 * 5 } }
     {
         Merged {
-            root: self.area.get(Entry::Raised(Spot { at: 0 })) as usize,
+            root: self.get(Entry::Raised(Spot { at: 0 })) as usize,
             shift: Shift::at(height),
         }
     }
+}
+
+// Merges the pair of trees, the left one with its tail.
+pub fn merge(pool: &mut Pool<'_>, work: &mut [u64], tail: Slots<'_>, p: Pair) -> Merged
+    requires { p.top ≤ 48 }
+    ensures tree { let x = merge_of pool.old.words.now pool.old.state work.old tail.entry.words.now p in (result.root ≡ x.0.root) × (result.shift ≡ x.0.shift) }
+    ensures lent { let x = merge_of pool.old.words.now pool.old.state work.old tail.entry.words.now p in Leaves pool.old pool.new x.0.state x.1 × (work.new ≡ x.2) }
+{
+    let mut lent = Lent {
+        words: &mut *pool.words,
+        state: pool.state,
+        work,
+    };
+    let merged = lent.merge_pair(tail, p);
+    pool.state = lent.state;
+    merged
 }

@@ -2,17 +2,12 @@
 ghost use Rattle.std.specs.Prelude.{◌≡◌, ◌+◌, ◌-◌, ◌*◌, ◌<◌, ◌≤◌, min, max};
 ghost use Rattle.blocks.specs.Words.{count_of};
 ghost use Rattle.merging.specs.Areas.{item_of};
-ghost use Rattle.blocks.specs.Pools.{Leaves};
-ghost use Rattle.node.specs.Leaves.{store_of};
-ghost use Rattle.node.specs.Builds.{built_of};
 ghost use Rattle.merging.specs.Lent.{on, Holds, Becomes, Packs};
 ghost use Rattle.merging.specs.Packs.{lead_from, pour_out, block_for, write_node, pour_in, release_items, pour_of, stays_whole, raise_nodes, raise_rest, insert_whole, insert_poured, insert_of, squeeze_of};
 
-use crate::Lent;
 use crate::areas::{Entry, Gap, InRow, Item, Raised, Rising, Row, Spot};
-use blocks::Pool;
+use crate::{Lent, areas};
 use levels::{Count, Shift, Slot};
-use node::Slots;
 
 // Whether c nodes from below at place p, after k full nodes, leave whole what follows them.
 #[tactic(auto, unfolding(crate::specs::Packs::stays_whole))]
@@ -22,26 +17,29 @@ fn stays_whole(k: InRow, p: usize, c: Raised) -> bool
     k.at * 32 == p && c.at % 32 == 0
 }
 
-// Makes block b a node of height j of the m slots of src.
-fn fill_node(pool: &mut Pool<'_>, b: usize, src: Slots<'_>, m: Count, j: Row)
-    ensures { Leaves pool.old pool.new pool.old.state (built_of (store_of pool.old.words.now b 2 src.entry.words.now) b m.at (min j.at 48 * 5)) }
+// Makes block b a node of height j of the m flat slots from t on.
+#[tactic(auto, unfolding(crate::specs::Packs::write_node))]
+fn write_node(words: &mut [u64], work: &[u64], b: usize, t: Spot, m: Count, j: Row)
+    ensures { words.new ≡ write_node words.old work.now b t.at m.at j.at }
 {
-    node::slots_fill(&mut *pool.words, b, src);
-    node::build(&mut *pool.words, b, m, Shift::at(j.at));
+    if let Some(src) = areas::flat(work, t, m) {
+        node::slots_fill(words, b, src);
+        node::build(words, b, m, Shift::at(j.at));
+    }
 }
 
 impl Lent<'_, '_> {
     // The slots of node i of row j.
     pub(crate) fn count(&self, j: Row, i: Item) -> usize
-        ensures { result ≡ count_of self.now.pool.words.now (item_of self.now.area.words.now j.at i.at) }
+        ensures { result ≡ count_of self.now.words.now (item_of self.now.work.now j.at i.at) }
     {
-        self.pool.block(self.area.item(j, i)).count()
+        self.block(self.item(j, i)).count()
     }
 
     // The full nodes of row j from k on, before the first that is not full, and before node end.
     #[tactic(auto, using(crate::specs::Packs::lead_at, crate::specs::Packs::lead_end))]
     fn leading(&self, j: Row, k: InRow, end: InRow) -> InRow
-        ensures full { result.at ≡ lead_from self.now.pool.words.now self.now.area.words.now j.at (end.at - k.at) k.at }
+        ensures full { result.at ≡ lead_from self.now.words.now self.now.work.now j.at (end.at - k.at) k.at }
         ensures low { k.at ≤ result.at }
         ensures high { result.at ≤ max k.at end.at }
     {
@@ -57,19 +55,19 @@ impl Lent<'_, '_> {
 
     // Lays the slots of row j's nodes from k on flat, with a gap. Where they end.
     fn pour_out(&mut self, j: Row, k: InRow, gap: Gap) -> Spot
-        ensures end { result.at ≡ (pour_out self.old.pool.words.now self.old.area.words.now j.at k.at gap.at gap.len.at).0 }
-        ensures lent { Holds self.old self.new self.old.pool.state self.old.pool.words.now (pour_out self.old.pool.words.now self.old.area.words.now j.at k.at gap.at gap.len.at).1 }
+        ensures end { result.at ≡ (pour_out self.old.words.now self.old.work.now j.at k.at gap.at gap.len.at).0 }
+        ensures lent { Holds self.old self.new self.old.state self.old.words.now (pour_out self.old.words.now self.old.work.now j.at k.at gap.at gap.len.at).1 }
     {
         let mut t = gap.past(Spot { at: 0 });
-        'nodes: for i in k.at..self.area.row_len(j).at {
-            let b = self.area.item(j, Item { at: i });
-            let m = self.pool.block(b).count();
+        'nodes: for i in k.at..self.row_len(j).at {
+            let b = self.item(j, Item { at: i });
+            let m = self.block(b).count();
             for at in 0..32 {
                 if m <= at {
                     continue 'nodes;
                 }
-                let x = self.pool.block(b).slot(Slot { at });
-                self.area.put(Entry::Flat(Spot { at: t }), x);
+                let x = self.block(b).slot(Slot { at });
+                self.put(Entry::Flat(Spot { at: t }), x);
                 t = gap.past(Spot { at: t + 1 });
             }
         }
@@ -80,22 +78,12 @@ impl Lent<'_, '_> {
     #[tactic(auto, unfolding(crate::specs::Packs::block_for))]
     fn block_for(&mut self, j: Row, i: usize) -> usize
         ensures block { result ≡ (on block_for self.old j.at i).block }
-        ensures lent { Holds self.old self.new (on block_for self.old j.at i).state self.old.pool.words.now self.old.area.words.now }
+        ensures lent { Holds self.old self.new (on block_for self.old j.at i).state self.old.words.now self.old.work.now }
     {
-        if i < self.area.row_len(j).at {
-            return self.area.item(j, Item { at: i });
+        if i < self.row_len(j).at {
+            return self.item(j, Item { at: i });
         }
-        self.pool.alloc()
-    }
-
-    // Makes block b a node of height j of the m flat slots from t on.
-    #[tactic(auto, unfolding(crate::specs::Packs::write_node))]
-    fn write_node(&mut self, b: usize, t: Spot, m: Count, j: Row)
-        ensures { Holds self.old self.new self.old.pool.state (write_node self.old.pool.words.now self.old.area.words.now b t.at m.at j.at) self.old.area.words.now }
-    {
-        if let Some(src) = self.area.flat(t, m) {
-            fill_node(&mut self.pool, b, src, m, j);
-        }
+        self.state.alloc(&mut *self.words)
     }
 
     // Pours so many flat slots into the row's nodes from k on, and new ones after them; they go up after the first out.
@@ -109,9 +97,10 @@ impl Lent<'_, '_> {
             let m = Count {
                 at: (total.at - i * 32).min(32),
             };
-            self.write_node(b, Spot { at: i * 32 }, m, j);
+            let t = Spot { at: i * 32 };
+            write_node(&mut *self.words, &mut *self.work, b, t, m, j);
             let up = out.at + i;
-            self.area.put(Entry::Raised(Spot { at: up }), b as u64);
+            self.put(Entry::Raised(Spot { at: up }), b as u64);
         }
         out.at + n
     }
@@ -119,11 +108,11 @@ impl Lent<'_, '_> {
     // Releases the nodes of row j from k on.
     #[tactic(auto, using(crate::specs::Packs::release_at, crate::specs::Packs::release_end), unfolding(crate::specs::Packs::release_items))]
     fn release_items(&mut self, j: Row, k: usize)
-        ensures { Holds self.old self.new (on release_items self.old j.at k).0 (on release_items self.old j.at k).1 self.old.area.words.now }
+        ensures { Holds self.old self.new (on release_items self.old j.at k).0 (on release_items self.old j.at k).1 self.old.work.now }
     {
-        for at in k..self.area.row_len(j).at {
-            let b = self.area.item(j, Item { at });
-            self.pool.release(b);
+        for at in k..self.row_len(j).at {
+            let b = self.item(j, Item { at });
+            self.state.release(&mut *self.words, b);
         }
     }
 
@@ -141,9 +130,9 @@ impl Lent<'_, '_> {
     fn raise_nodes(&mut self, j: Row, k: InRow, c: Raised)
         ensures { Becomes self.old self.new (on raise_nodes self.old j.at k.at c.at) }
     {
-        let n = self.area.row_len(j);
-        self.area.lay_nodes(Gap { at: 0, len: c });
-        self.area.keep(j, 0, k, Rising { at: 0 });
+        let n = self.row_len(j);
+        self.lay_nodes(Gap { at: 0, len: c });
+        self.keep(j, 0, k, Rising { at: 0 });
         self.pour_in(j, n, Spot { at: c.at }, Rising { at: k.at });
     }
 
@@ -153,7 +142,7 @@ impl Lent<'_, '_> {
         requires { k.at ≤ l.at }
         ensures { Packs self.old self.new result (on raise_rest self.old j.at k.at l.at out.at) }
     {
-        self.area.keep(j, k.at, l, Rising { at: out.at });
+        self.keep(j, k.at, l, Rising { at: out.at });
         let none = Raised { at: 0 };
         let t = self.pour_out(j, l, Gap { at: 0, len: none });
         let kept = out.at + (l.at - k.at);
@@ -165,7 +154,7 @@ impl Lent<'_, '_> {
     fn insert_whole(&mut self, j: Row, k: InRow, c: Raised) -> usize
         ensures { Packs self.old self.new result (on insert_whole self.old j.at k.at c.at) }
     {
-        let l = self.leading(j, k, self.area.row_len(j));
+        let l = self.leading(j, k, self.row_len(j));
         self.raise_nodes(j, k, c);
         let out = k.at + c.at.div_ceil(32);
         self.raise_rest(j, k, l, Raised { at: out })
@@ -176,9 +165,9 @@ impl Lent<'_, '_> {
     fn insert_poured(&mut self, j: Row, k: InRow, gap: Gap) -> usize
         ensures { Packs self.old self.new result (on insert_poured self.old j.at k.at gap.at gap.len.at) }
     {
-        self.area.lay_nodes(gap);
+        self.lay_nodes(gap);
         let t = self.pour_out(j, k, gap);
-        self.area.keep(j, 0, k, Rising { at: 0 });
+        self.keep(j, 0, k, Rising { at: 0 });
         self.pour(j, k, t, Rising { at: k.at })
     }
 
@@ -188,9 +177,9 @@ impl Lent<'_, '_> {
         ensures { Packs self.old self.new result (on insert_of self.old j.at c) }
     {
         let d = Raised { at: c.min(64) };
-        let p = self.area.row_place(j);
+        let p = self.row_place(j);
         let end = InRow {
-            at: self.area.row_len(j).at.min(p / 32),
+            at: self.row_len(j).at.min(p / 32),
         };
         let k = self.leading(j, InRow { at: 0 }, end);
         if stays_whole(k, p, d) {
@@ -206,6 +195,6 @@ impl Lent<'_, '_> {
         ensures { Becomes self.old self.new (on squeeze_of self.old j.at) }
     {
         let n = self.insert_whole(j, InRow { at: 0 }, Raised { at: 0 });
-        self.area.put(Entry::Len(j), n as u64);
+        self.put(Entry::Len(j), n as u64);
     }
 }

@@ -17,6 +17,11 @@ unfoldable pub sibling_of : Option ℕ → Room
 sibling_of None = room.Above
 sibling_of (Some level) = room.At level
 
+-- a level above the leaves; there is none at them
+abbrev pub level_at : ℕ → Option ℕ
+level_at zero = None
+level_at (suc h) = Some (suc h)
+
 -- the level of the dense branch that gets a new child, where place is the length below block b; the fuel is at least the shift
 unfoldable pub dense_room : ℕ → List ℕ → ℕ → ℕ → ℕ → ℕ
 dense_room zero ws b shift place = shift / 5
@@ -30,7 +35,7 @@ relaxed_room ws b shift place level =
     let i = last_of ws b in
     record {
       at = record { block = slot_of ws b i; shift = record { 0 = shift - 5 }; place = record { 0 = place - before_of ws b i } };
-      level = pick (nat_lt i 31) (Some (shift / 5)) level;
+      level = pick (nat_lt i 31) (level_at (shift / 5)) level;
     }
 
 -- "At a `Branch` above shift 5: room if its tree length (relative to it) is < 2^(shift+5). At shift 5: room if count < 32."

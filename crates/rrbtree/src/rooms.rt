@@ -1,6 +1,6 @@
 // The search for room down the last children.
 ghost use Rattle.std.specs.Prelude.{◌≡◌, ◌/◌};
-ghost use Rattle.rrbtree.specs.Rooms.{sibling_of, dense_room, relaxed_room, look_of, room_of, needs_of};
+ghost use Rattle.rrbtree.specs.Rooms.{sibling_of, level_at, dense_room, relaxed_room, look_of, room_of, needs_of};
 
 use crate::Tree;
 use crate::walks::Cursor;
@@ -29,6 +29,16 @@ fn sibling(level: Option<usize>) -> Room
     ensures { result ≡ sibling_of level }
 {
     level.map_or(Room::Above, Room::At)
+}
+
+// A level above the leaves; there is none at them.
+fn level_at(height: usize) -> Option<usize>
+    ensures { result ≡ level_at height }
+{
+    match height {
+        0 => None,
+        h => Some(h),
+    }
 }
 
 // The level of the dense branch that gets a new child.
@@ -69,7 +79,7 @@ impl Search {
         if i.at < 31 {
             return Search {
                 at: kid,
-                level: Some(shift.height()),
+                level: level_at(shift.height()),
             };
         }
         Search { at: kid, ..self }

@@ -18,10 +18,11 @@ loop-i-preserved c =
     let m : c.min.result ≡ min 32 left = omega (arith, c.min.ensures) in
     let up : node_at a.out.at + l.i ≡ node_at (a.out.at + l.i) = omega arith in
     let b = c.block_for-b.ensures in
-    let w = c.write_node.ensures in (
+    let w = c.write_node.ensures in
+    let q = c.put.ensures in (
       v.0 - 1,
       omega (arith, v.1, e),
-      w.0.0 ∙ b.lent.0.0 ∙ v.2,
-      c.put.ensures.0 ∙ w.1.0 ∙ b.lent.1.0 ∙ v.3,
-      v.4 ∙ pour_at s.pool.words.now s.pool.state s.area.words.now a.j.at a.k.at a.out.at left l.i v.0 p v.1 g (min 32 left) refl refl ∙ rw (c.put.ensures.1, w.1.1, w.0.1, w.0.2, b.block, b.lent.0.1, b.lent.0.2, b.lent.1.1, m, e, up),
+      q.0 ∙ b.lent.0 ∙ v.2,
+      q.3 ∙ b.lent.3 ∙ v.3,
+      v.4 ∙ pour_at s.words.now s.state s.work.now a.j.at a.k.at a.out.at left l.i v.0 p v.1 g (min 32 left) refl refl ∙ rw (q.1, q.2, q.4, w, b.block, b.lent.1, b.lent.2, b.lent.4, m, e, up),
     )

@@ -9,4 +9,4 @@ invariant-loop-i l =
     let old = l.initial.self in
     let new = l.self in
     let left = l.total.at - l.i * 32 in
-    (fuel : ℕ) × (left ≤ fuel) × (new.pool.words.ghost_name ≡ old.pool.words.ghost_name) × (new.area.words.ghost_name ≡ old.area.words.ghost_name) × (on pour_in old l.j.at l.k.at l.total.at l.out.at ≡ pour_from fuel new.pool.words.now new.pool.state new.area.words.now l.j.at l.k.at l.out.at left l.i)
+    (fuel : ℕ) × (left ≤ fuel) × (new.words.ghost_name ≡ old.words.ghost_name) × (new.work.ghost_name ≡ old.work.ghost_name) × (on pour_in old l.j.at l.k.at l.total.at l.out.at ≡ pour_from fuel new.words.now new.state new.work.now l.j.at l.k.at l.out.at left l.i)
