@@ -65,6 +65,7 @@ pub fn total(pool: &[u64]) -> usize
 }
 
 // Stores a word of block b; where there is no such block nothing.
+#[tactic(auto, unfolding(crate::specs::Words::put_of))]
 pub fn put(pool: &mut [u64], b: usize, f: Field, x: u64)
     ensures { pool.new ≡ put_of pool.old b (place_of f) x }
 {
@@ -74,6 +75,7 @@ pub fn put(pool: &mut [u64], b: usize, f: Field, x: u64)
 }
 
 // Puts all blocks on the chain, in order.
+#[tactic(auto, using(crate::specs::Chain::chained_more), unfolding(crate::specs::Chain::chained_of))]
 pub fn free_all(pool: &mut [u64])
     ensures { pool.new ≡ chained_of pool.old (length pool.old / 66) }
 {
@@ -84,6 +86,7 @@ pub fn free_all(pool: &mut [u64])
 }
 
 // The blocks along the chain: as many as the pool has, at most.
+#[tactic(auto, using(crate::specs::Chain::chain_more, crate::specs::Chain::chain_out, crate::specs::Chain::chain_end), unfolding(crate::specs::Chain::free_count_of))]
 pub fn free_count(pool: &[u64], st: State) -> usize
     ensures { result ≡ free_count_of pool.now (length pool.now / 66) st.free }
 {

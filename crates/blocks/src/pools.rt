@@ -15,12 +15,14 @@ pub struct Pool<'a> {
 }
 
 impl Pool<'_> {
+    // The words, to be read.
     pub fn words(&self) -> &[u64]
         ensures { result.now ≡ self.now.words.now }
     {
         self.words
     }
 
+    // A block, to be read.
     pub fn block(&self, number: usize) -> Block<'_>
         ensures pool { result.pool.now ≡ self.now.words.now }
         ensures number { result.number ≡ number }

@@ -15,6 +15,7 @@ pub struct Block<'a> {
 }
 
 impl<'a> Block<'a> {
+    // The block of a number.
     pub fn new(pool: &'a [u64], number: usize) -> Self
         ensures pool { result.pool.now ≡ pool.now }
         ensures number { result.number ≡ number }
@@ -23,6 +24,7 @@ impl<'a> Block<'a> {
     }
 
     // A word of the block.
+    #[tactic(auto, unfolding(crate::specs::Words::word_of))]
     pub fn word(self, f: Field) -> u64
         ensures { result ≡ read word_of self.entry (place_of f) }
     {

@@ -116,7 +116,7 @@ impl Index {
     pub fn element(self) -> Slot
         ensures { result.at ≡ element_of self.0 }
     {
-        Slot { at: self.0 & 31 }
+        self.child(Shift::leaf())
     }
 
     // The place counted from a slot that has so many elements before it.

@@ -23,20 +23,21 @@ pub const FLAT: usize = 3264;
 pub const WORK: usize = 5312;
 
 // A row, by its height.
-pub type Row = Below<50>;
+pub type Row = Below<ROWS>;
 
-// A node of a row, and a number of them.
+// A node of a row.
 pub type Item = Below<62>;
 
+// A number of nodes of a row.
 pub type InRow = Below<63>;
 
-// A number of nodes or elements from below.
+// A number of nodes or elements that came from below, or of nodes that went up.
 pub type Raised = Below<65>;
 
-// A number of nodes that go up.
+// A number of nodes that go up: 200 at most, and 126 are the most that come about.
 pub type Rising = Below<201>;
 
-// A place among the nodes that go up or the flat slots, or past them.
+// A place among the nodes that go up or the flat slots, or past them: so small that no sum of places overflows.
 pub type Spot = Below<200001>;
 
 // A word of the area, by what it holds.
@@ -98,13 +99,8 @@ pub(crate) fn flat<'a>(work: &'a [u64], t: Spot, m: Count) -> Option<Slots<'a>>
     ensures { MatchOption result (length work.now < flat_at t.at + m.at) (λ s. (flat_at t.at + m.at ≤ length work.now) × (s.words.now ≡ slice_range work.now (flat_at t.at) (flat_at t.at + m.at))) }
 {
     let start = Entry::Flat(t).at();
-    let end = start + m.at;
-    if end <= work.len() {
-        return Some(Slots {
-            words: &work[start..end],
-        });
-    }
-    None
+    let words = work.get(start..start + m.at)?;
+    Some(Slots { words })
 }
 
 // Words go up, after the first out.

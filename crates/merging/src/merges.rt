@@ -101,6 +101,7 @@ impl Lent<'_, '_> {
     }
 
     // The spines from their top down: what goes up to that height.
+    #[tactic(auto, using(crate::specs::Merges::merge_bottom, crate::specs::Merges::merge_up, crate::specs::Lent::became, crate::specs::Lent::packs_so))]
     fn merge_level(&mut self, tail: Slots<'_>, p: Pair) -> usize
         requires { p.top ≤ 50 }
         ensures { Packs self.old self.new result (on (merge_level p.top) self.old tail.entry.words.now p.left p.right) }
@@ -119,6 +120,7 @@ impl Lent<'_, '_> {
     }
 
     // The merge of a pair, from its top on.
+    #[tactic(auto, using(crate::specs::Merges::merge_one, crate::specs::Merges::merge_two, crate::specs::Lent::packs_so))]
     fn merge_pair(&mut self, tail: Slots<'_>, p: Pair) -> Merged
         requires { p.top ≤ 48 }
         ensures { Joins self.old self.new result.root result.shift (on merge_of self.old tail.entry.words.now p) }

@@ -37,7 +37,7 @@ impl Lent<'_, '_> {
     }
 
     // The full nodes of row j from k on, before the first that is not full, and before node end.
-    #[tactic(auto, using(crate::specs::Packs::lead_at, crate::specs::Packs::lead_end))]
+    #[tactic(auto, using(crate::specs::Packs::lead_at, crate::specs::Packs::lead_end), unfolding(crate::specs::Packs::lead_from))]
     fn leading(&self, j: Row, k: InRow, end: InRow) -> InRow
         ensures full { result.at ≡ lead_from self.now.words.now self.now.work.now j.at (end.at - k.at) k.at }
         ensures low { k.at ≤ result.at }
@@ -53,7 +53,8 @@ impl Lent<'_, '_> {
         }
     }
 
-    // Lays the slots of row j's nodes from k on flat, with a gap. Where they end.
+    // Lays the slots of row j's nodes from k on flat, with a gap. Where they end. A node ends its turn in the outer, labelled loop.
+    #[tactic(auto, using(crate::specs::Packs::nodes_end, crate::specs::Packs::nodes_more), unfolding(crate::specs::Packs::pour_out))]
     fn pour_out(&mut self, j: Row, k: InRow, gap: Gap) -> Spot
         ensures end { result.at ≡ (pour_out self.old.words.now self.old.work.now j.at k.at gap.at gap.len.at).0 }
         ensures lent { Holds self.old self.new self.old.state self.old.words.now (pour_out self.old.words.now self.old.work.now j.at k.at gap.at gap.len.at).1 }

@@ -96,6 +96,7 @@ impl Spine {
         Some(Others::Kids(b, 0, Block::new(pool, b).last().at))
     }
 
+    // All children but the first stand beside the right tree's spine.
     #[tactic(auto, unfolding(crate::specs::Spines::right_others))]
     fn right_others(self, pool: &[u64], j: usize) -> Option<Others>
         ensures { result ≡ right_others pool.now self.block self.height j }

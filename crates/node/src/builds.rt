@@ -11,14 +11,11 @@ use levels::{Count, Shift, Slot};
 fn dense_part(i: usize, shift: Shift) -> usize
     ensures { result ≡ dense_part i shift.0 }
 {
-    if shift.0 < 64 {
-        return i << shift.0;
-    }
-    0
+    i.checked_shl(shift.0).unwrap_or(0)
 }
 
 // The elements below block b at a level, worked out through last children.
-#[tactic(auto, using(crate::specs::Builds::sub_at, crate::specs::Builds::sub_leaf))]
+#[tactic(auto, using(crate::specs::Builds::sub_at, crate::specs::Builds::sub_leaf), unfolding(crate::specs::Builds::sub_trie))]
 fn size_sub_trie(b: Block<'_>, shift: Shift) -> usize
     ensures { result ≡ read (sub_trie shift.0) b.entry shift.0 0 }
 {

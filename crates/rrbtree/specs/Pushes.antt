@@ -39,14 +39,12 @@ abbrev rooted : ℕ → State × List ℕ → Got × List ℕ
 rooted root a = (record { block = root; state = a.0 }, a.1)
 
 unfoldable pub push_at : List ℕ → State → Tree → ℕ → List ℕ → Got × List ℕ
-unfolding rooted
 push_at ws st t level xs =
     let g = go_last (t.shift.0 / 5 - level) ws t.root (length xs) in
     rooted t.root (add_path (level - 1) g.1 st g.0 xs)
 
 -- "No room: a new root one level up holds the old one; if the old one is relaxed, so is the new one"
 unfoldable pub push_above : List ℕ → State → Tree → List ℕ → Got × List ℕ
-unfolding rooted
 push_above ws st t xs =
     let g = alloc_of ws st in
     rooted g.block (add_path (t.shift.0 / 5) (pair_of ws st.free t.root t.len) g.state g.block xs)

@@ -49,7 +49,7 @@ fn drop_kid(pool: &mut Pool<'_>, t: Taken, b: usize, i: Slot, kid: usize) -> Tak
     }
 }
 
-// A branch whose size table, if it has one, is still to be brought up to date.
+// The last leaf below branch b goes; a size table, if there is one, is still to be brought up to date.
 #[cycle(leaf_pop)]
 #[tactic(auto, unfolding(crate::specs::Pops::branch_pop, crate::specs::Pops::after_kid, crate::specs::Pops::keep_kid))]
 fn dense_pop(pool: &mut Pool<'_>, b: usize, shift: Shift) -> Taken
@@ -84,6 +84,7 @@ fn relaxed_pop(pool: &mut Pool<'_>, b: usize, shift: Shift) -> Taken
     t
 }
 
+// The last leaf below branch b goes, by the branch's kind.
 #[cycle(leaf_pop)]
 #[tactic(auto, using(crate::specs::Pops::pop_low, crate::specs::Pops::pop_high))]
 fn node_pop(pool: &mut Pool<'_>, b: usize, shift: Shift) -> Taken

@@ -4,7 +4,7 @@ ghost use Rattle.blocks.specs.Pools.{on, Leaves, Gives};
 ghost use Rattle.rrbtree.specs.Pushes.{path_of, add_path, go_last, push_at, push_above, push_of, shift_after};
 
 use crate::{Room, Tree};
-use blocks::{Block, Pool};
+use blocks::Pool;
 use levels::{Shift, Slot};
 use node::Slots;
 
@@ -34,15 +34,16 @@ fn add_path(pool: &mut Pool<'_>, b: usize, height: usize, src: Slots<'_>)
 
 // The block so many last children down; each of those is to have len elements more.
 #[tactic(auto, using(crate::specs::Pushes::last_more), unfolding(crate::specs::Pushes::go_last))]
-fn go_last(pool: &mut [u64], b: usize, depth: usize, len: usize) -> usize
-    ensures { (result ≡ (go_last depth pool.old b len).0) × (pool.new ≡ (go_last depth pool.old b len).1) }
+fn go_last(pool: &mut Pool<'_>, b: usize, depth: usize, len: usize) -> usize
+    ensures block { result ≡ (go_last depth pool.old.words.now b len).0 }
+    ensures pool { Leaves pool.old pool.new pool.old.state (go_last depth pool.old.words.now b len).1 }
 {
     let mut at = b;
     for _ in 0..depth {
-        let branch = Block::new(pool, at);
+        let branch = pool.block(at);
         let i = branch.last();
         let next = branch.child(i).number;
-        node::more_kid(pool, at, i, len);
+        node::more_kid(&mut *pool.words, at, i, len);
         at = next;
     }
     at
@@ -54,7 +55,7 @@ fn push_at(pool: &mut Pool<'_>, t: Tree, level: usize, src: Slots<'_>) -> usize
     ensures { Gives pool.old pool.new result (on push_at pool.old t level src.entry.words.now) }
 {
     let depth = t.shift.height().saturating_sub(level);
-    let b = go_last(&mut *pool.words, t.root, depth, src.words.len());
+    let b = go_last(pool, t.root, depth, src.words.len());
     add_path(pool, b, level.saturating_sub(1), src);
     t.root
 }

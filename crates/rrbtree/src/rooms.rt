@@ -1,5 +1,5 @@
 // The search for room down the last children.
-ghost use Rattle.std.specs.Prelude.{◌≡◌, ◌/◌};
+ghost use Rattle.std.specs.Prelude.{◌≡◌};
 ghost use Rattle.rrbtree.specs.Rooms.{sibling_of, level_at, dense_room, relaxed_room, look_of, room_of, needs_of};
 
 use crate::Tree;
@@ -116,7 +116,7 @@ impl Search {
 }
 
 // Where the next leaf of a tree goes.
-#[tactic(auto, using(crate::specs::Rooms::search_ends, crate::specs::Rooms::search_down, crate::specs::Rooms::down_above, crate::specs::Rooms::look_shift), unfolding(crate::specs::Rooms::room_of))]
+#[tactic(auto, using(crate::specs::Rooms::search_ends, crate::specs::Rooms::search_down, crate::specs::Rooms::down_above, crate::specs::Rooms::look_shift), unfolding(crate::specs::Rooms::room_of, crate::specs::Rooms::search_of))]
 pub fn has_enough_capacity(pool: &[u64], t: Tree) -> Room
     ensures { result ≡ room_of pool.now t }
 {
