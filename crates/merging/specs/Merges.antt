@@ -43,7 +43,7 @@ row_slots ws w j = slots_sum ws w j (row_len w j) 0
 -- the nodes beside a spine go into row j, and their spine node is released
 unfoldable pub collect_of : List ℕ → State → List ℕ → ℕ → Option Others → State × List ℕ × List ℕ
 collect_of ws st w j None = (st, ws, w)
-collect_of ws st w j (Some (others.Kids b start to)) = (on_chain st b, release_of ws st b, add_items ws w j b start to)
+collect_of ws st w j (Some (others.Kids k)) = (on_chain st k.block, release_of ws st k.block, add_items ws w j k.block k.from k.to)
 collect_of ws st w j (Some (others.Only b)) = (st, ws, add_item w j b)
 
 -- both spines' nodes go into row j, the left ones first; its place is after those

@@ -22,8 +22,8 @@ counts_of ws b start to = counts_from ws b (min to 32 - start) start 0
 -- the plan with the nodes beside a spine added
 unfoldable pub with_others : List ℕ → Plan → Option Others → Plan
 with_others ws p None = p
-with_others ws p (Some (others.Kids b start to)) =
-    record { slots = plus p.slots (counts_of ws b start to); made = p.made; gone = plus p.gone (plus (to - start) 1) }
+with_others ws p (Some (others.Kids k)) =
+    record { slots = plus p.slots (counts_of ws k.block k.from k.to); made = p.made; gone = plus p.gone (plus (k.to - k.from) 1) }
 with_others ws p (Some (others.Only b)) = record { slots = plus p.slots (count_of ws b); made = p.made; gone = plus p.gone 1 }
 
 -- the plan with its slots packed into nodes

@@ -32,16 +32,20 @@ pair_of ws a tail g =
       top = min (max (max h stop) k) 48;
     }
 
+-- the children start..to of block b
+abbrev pub kids_of : ℕ → ℕ → ℕ → Others
+kids_of b start to = others.Kids (record { block = b; from = start; to = to })
+
 -- what stands beside the left tree's spine below its node at height j: below the hanging tail nothing, at its height all
 unfoldable pub left_others : List ℕ → ℕ → ℕ → ℕ → ℕ → Option Others
 left_others ws b height stop j =
     pick (nat_lt j stop) None
     (pick (nat_lt height j) (pick (j == stop) (Some (others.Only b)) None)
-    (pick (j == stop) (Some (others.Kids b 0 (count_of ws b))) (Some (others.Kids b 0 (last_of ws b)))))
+    (pick (j == stop) (Some (kids_of b 0 (count_of ws b))) (Some (kids_of b 0 (last_of ws b)))))
 
 -- and beside the right tree's
 unfoldable pub right_others : List ℕ → ℕ → ℕ → ℕ → Option Others
-right_others ws b height j = pick (nat_lt height j) None (Some (others.Kids b 1 (count_of ws b)))
+right_others ws b height j = pick (nat_lt height j) None (Some (kids_of b 1 (count_of ws b)))
 
 abbrev others_by : List ℕ → ℕ → ℕ → ℕ → Side → Option Others
 others_by ws b height j (side.Left stop) = left_others ws b height stop j

@@ -6,7 +6,7 @@ ghost use Rattle.merging.specs.Lent.{on, Holds, Becomes, Packs, Joins};
 ghost use Rattle.merging.specs.Merges.{add_items, row_slots, collect_of, collect_both, lift_leaf, lift_leaves, merge_level, merge_of};
 
 use crate::areas::{Entry, Item, Row, Spot};
-use crate::spines::Others;
+use crate::spines::{Kids, Others};
 use crate::{Lent, Pair, areas};
 use blocks::{Block, Pool};
 use levels::{Count, Shift, Slot};
@@ -28,13 +28,13 @@ fn lift_leaf(words: &[u64], work: &mut [u64], b: usize, out: Count)
 }
 
 impl Lent<'_, '_> {
-    // Adds the children from..to of block b to row j.
+    // Adds children to row j.
     #[tactic(auto, using(crate::specs::Merges::add_at, crate::specs::Merges::add_end), unfolding(crate::specs::Merges::add_items))]
-    fn add_items(&mut self, j: Row, b: usize, from: usize, to: usize)
-        ensures { Holds self.old self.new self.old.state self.old.words.now (add_items self.old.words.now self.old.work.now j.at b from to) }
+    fn add_items(&mut self, j: Row, k: Kids)
+        ensures { Holds self.old self.new self.old.state self.old.words.now (add_items self.old.words.now self.old.work.now j.at k.block k.from k.to) }
     {
-        for at in from..to.min(32) {
-            let kid = self.block(b).child(Slot { at }).number;
+        for at in k.from..k.to.min(32) {
+            let kid = self.block(k.block).child(Slot { at }).number;
             self.add_item(j, kid);
         }
     }
@@ -58,9 +58,9 @@ impl Lent<'_, '_> {
     {
         match o {
             None => {}
-            Some(Others::Kids(b, from, to)) => {
-                self.add_items(j, b, from, to);
-                self.state.release(&mut *self.words, b);
+            Some(Others::Kids(k)) => {
+                self.add_items(j, k);
+                self.state.release(&mut *self.words, k.block);
             }
             Some(Others::Only(b)) => {
                 self.add_item(j, b);

@@ -1,10 +1,9 @@
 // Held after a merge, from counts alone: no word changes.
 ghost use Rattle.std.specs.Prelude.{◌≡◌};
-ghost use Rattle.blocks.specs.Views.{read};
 ghost use Rattle.merging.specs.Plans.{counts_of, with_others, packed_of, plan_leaves, plan_level, held_after};
 
 use crate::Pair;
-use crate::spines::Others;
+use crate::spines::{Kids, Others};
 use blocks::Block;
 use levels::Slot;
 
@@ -16,13 +15,14 @@ pub struct Plan {
     pub gone: usize,
 }
 
-// The counts of the children from..to of b.
+// The counts of some children.
 #[tactic(auto, using(crate::specs::Plans::counts_at, crate::specs::Plans::counts_end), unfolding(crate::specs::Plans::counts_of))]
-fn counts(b: Block<'_>, from: usize, to: usize) -> usize
-    ensures { result ≡ read counts_of b.entry from to }
+fn counts(pool: &[u64], k: Kids) -> usize
+    ensures { result ≡ counts_of pool.now k.block k.from k.to }
 {
+    let b = Block::new(pool, k.block);
     let mut sum: usize = 0;
-    for at in from..to.min(32) {
+    for at in k.from..k.to.min(32) {
         sum = sum.wrapping_add(b.child(Slot { at }).count());
     }
     sum
@@ -36,13 +36,11 @@ impl Plan {
     {
         match o {
             None => self,
-            Some(Others::Kids(b, from, to)) => Plan {
-                slots: self
-                    .slots
-                    .wrapping_add(counts(Block::new(pool, b), from, to)),
+            Some(Others::Kids(k)) => Plan {
+                slots: self.slots.wrapping_add(counts(pool, k)),
                 gone: self
                     .gone
-                    .wrapping_add(to.saturating_sub(from).wrapping_add(1)),
+                    .wrapping_add(k.to.saturating_sub(k.from).wrapping_add(1)),
                 ..self
             },
             Some(Others::Only(b)) => Plan {

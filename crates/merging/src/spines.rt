@@ -29,10 +29,18 @@ pub struct Pair {
     pub top: usize,
 }
 
-// The nodes beside a spine: the children from..to of a spine node; or the whole left tree, below a root that is still to come.
+// The children from..to of a node.
+#[derive(Clone, Copy)]
+pub struct Kids {
+    pub block: usize,
+    pub from: usize,
+    pub to: usize,
+}
+
+// The nodes beside a spine: children of a spine node; or the whole left tree, below a root that is still to come.
 #[derive(Clone, Copy)]
 pub enum Others {
-    Kids(usize, usize, usize),
+    Kids(Kids),
     Only(usize),
 }
 
@@ -80,20 +88,22 @@ impl Spine {
     fn left_others(self, pool: &[u64], stop: usize, j: usize) -> Option<Others>
         ensures { result ≡ left_others pool.now self.block self.height stop j }
     {
-        let b = self.block;
+        let block = self.block;
         if j < stop {
             return None;
         }
         if self.height < j {
             if j == stop {
-                return Some(Others::Only(b));
+                return Some(Others::Only(block));
             }
             return None;
         }
         if j == stop {
-            return Some(Others::Kids(b, 0, Block::new(pool, b).count()));
+            let to = Block::new(pool, block).count();
+            return Some(Others::Kids(Kids { block, from: 0, to }));
         }
-        Some(Others::Kids(b, 0, Block::new(pool, b).last().at))
+        let to = Block::new(pool, block).last().at;
+        Some(Others::Kids(Kids { block, from: 0, to }))
     }
 
     // All children but the first stand beside the right tree's spine.
@@ -104,7 +114,9 @@ impl Spine {
         if self.height < j {
             return None;
         }
-        Some(Others::Kids(self.block, 1, Block::new(pool, self.block).count()))
+        let block = self.block;
+        let to = Block::new(pool, block).count();
+        Some(Others::Kids(Kids { block, from: 1, to }))
     }
 
     // What stands beside the spine below its node at height j.

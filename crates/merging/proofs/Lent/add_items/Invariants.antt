@@ -9,4 +9,4 @@ invariant-loop-at l =
     let old = l.initial.self in
     let ws = old.words.now in
     let w = l.self.work.now in
-    Stores old l.self w × (add_from ws old.work.now l.j.at l.b (l.at-end - l.from) l.from ≡ add_from ws w l.j.at l.b (l.at-end - l.at) l.at)
+    Stores old l.self w × (add_from ws old.work.now l.j.at l.k.block (l.at-end - l.k.from) l.k.from ≡ add_from ws w l.j.at l.k.block (l.at-end - l.at) l.at)

@@ -5,4 +5,4 @@ use Rattle.merging.specs.Plans.{counts_from}
 use Rattle.merging.proofs.plans.counts.Given as goal
 
 abbrev pub invariant-loop-at : goal.invariant-loop-at
-invariant-loop-at l = read counts_from l.b (l.at-end - l.from) l.from 0 ≡ read counts_from l.b (l.at-end - l.at) l.at l.sum
+invariant-loop-at l = read counts_from l.b (l.at-end - l.fn.k.from) l.fn.k.from 0 ≡ read counts_from l.b (l.at-end - l.at) l.at l.sum
