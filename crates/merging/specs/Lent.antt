@@ -1,6 +1,5 @@
 -- What a merge is lent, as definitions on the pool's words, its state and the area's words see it.
 use Rattle.std.specs.Prelude.{◌≡◌, ℕ, List}
-use Rattle.std.proofs.Common.{◌∙◌}
 use Rattle.blocks.specs.declared.State.{State}
 use Rattle.merging.specs.declared.Lent.{Lent}
 use Rattle.levels.specs.declared.Shift.{Shift}
@@ -31,10 +30,7 @@ Packs old new n x = (n ≡ x.0.n) × Holds old new x.0.state x.1 x.2
 abbrev pub Joins : Lent → Lent → ℕ → Shift → Merged × List ℕ × List ℕ → Type 0
 Joins old new root shift x = (root ≡ x.0.root) × (shift ≡ x.0.shift) × Holds old new x.0.state x.1 x.2
 
--- The laws by which calls follow one another: what is lent stays lent, and what it holds is what the last call left.
-pub holds_on : (a b c : Lent) {s t : State} {ws w vs v : List ℕ} → Holds a b s ws w → Holds b c t vs v → Holds a c t vs v
-holds_on a b c h k = (k.0 ∙ h.0, k.1, k.2, k.3 ∙ h.3, k.4)
-
+-- The laws by which calls follow one another: what is lent holds what the last call left.
 pub became : (a b : Lent) (x : State × List ℕ × List ℕ) → Becomes a b x → ◌≡◌ {A = State × List ℕ × List ℕ} (b.state, b.words.now, b.work.now) x
 became a b x h = triple_same x _ _ _ (h.1, (h.2, h.4))
 
