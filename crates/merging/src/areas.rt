@@ -34,7 +34,7 @@ pub type InRow = Below<63>;
 // A number of nodes or elements that came from below, or of nodes that went up.
 pub type Raised = Below<65>;
 
-// A number of nodes that go up: 200 at most, and 126 are the most that come about.
+// A number of nodes that go up: 200 at most, more than ever do.
 pub type Rising = Below<201>;
 
 // A place among the nodes that go up or the flat slots, or past them: so small that no sum of places overflows.

@@ -2,7 +2,7 @@
 ghost use Rattle.std.specs.Prelude.{◌≡◌, ◌*◌, ◌≤◌, min, slice_index};
 ghost use Rattle.blocks.specs.Pools.{Leaves};
 ghost use Rattle.merging.specs.Areas.{node_at};
-ghost use Rattle.merging.specs.Lent.{on, Holds, Becomes, Packs, Joins};
+ghost use Rattle.merging.specs.Lent.{on, Stores, Becomes, Packs, Joins};
 ghost use Rattle.merging.specs.Merges.{add_items, row_slots, collect_of, collect_both, lift_leaf, lift_leaves, merge_level, merge_of};
 
 use crate::areas::{Entry, Item, Row, Spot};
@@ -31,7 +31,7 @@ impl Lent<'_, '_> {
     // Adds children to row j.
     #[tactic(auto, using(crate::specs::Merges::add_at, crate::specs::Merges::add_end), unfolding(crate::specs::Merges::add_items))]
     fn add_items(&mut self, j: Row, k: Kids)
-        ensures { Holds self.old self.new self.old.state self.old.words.now (add_items self.old.words.now self.old.work.now j.at k.block k.from k.to) }
+        ensures { Stores self.old self.new (add_items self.old.words.now self.old.work.now j.at k.block k.from k.to) }
     {
         for at in k.from..k.to.min(32) {
             let kid = self.block(k.block).child(Slot { at }).number;

@@ -2,7 +2,7 @@
 ghost use Rattle.std.specs.Prelude.{◌≡◌, ◌+◌, ◌-◌, ◌*◌, ◌<◌, ◌≤◌, min, max};
 ghost use Rattle.blocks.specs.Words.{count_of};
 ghost use Rattle.merging.specs.Areas.{item_of};
-ghost use Rattle.merging.specs.Lent.{on, Holds, Becomes, Packs};
+ghost use Rattle.merging.specs.Lent.{on, Holds, Stores, Becomes, Packs};
 ghost use Rattle.merging.specs.Packs.{lead_from, pour_out, block_for, write_node, pour_in, release_items, pour_of, stays_whole, raise_nodes, raise_rest, insert_whole, insert_poured, insert_of, squeeze_of};
 
 use crate::areas::{Entry, Gap, InRow, Item, Raised, Rising, Row, Spot};
@@ -57,7 +57,7 @@ impl Lent<'_, '_> {
     #[tactic(auto, using(crate::specs::Packs::nodes_end, crate::specs::Packs::nodes_more), unfolding(crate::specs::Packs::pour_out))]
     fn pour_out(&mut self, j: Row, k: InRow, gap: Gap) -> Spot
         ensures end { result.at ≡ (pour_out self.old.words.now self.old.work.now j.at k.at gap.at gap.len.at).0 }
-        ensures lent { Holds self.old self.new self.old.state self.old.words.now (pour_out self.old.words.now self.old.work.now j.at k.at gap.at gap.len.at).1 }
+        ensures lent { Stores self.old self.new (pour_out self.old.words.now self.old.work.now j.at k.at gap.at gap.len.at).1 }
     {
         let mut t = gap.past(Spot { at: 0 });
         'nodes: for i in k.at..self.row_len(j).at {
