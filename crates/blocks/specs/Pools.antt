@@ -4,7 +4,7 @@ use Rattle.blocks.specs.declared.State.{State}
 use Rattle.blocks.specs.declared.pools.Pool.{Pool}
 use Rattle.blocks.specs.Chain.{Got}
 
--- a definition on words and state, of a pool's
+-- what a definition f, of words and state, gives for those of a pool
 abbrev pub on : {A : Type 0} → (List ℕ → State → A) → Pool → A
 on f pool = f pool.words.now pool.state
 

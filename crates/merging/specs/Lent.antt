@@ -6,7 +6,7 @@ use Rattle.levels.specs.declared.Shift.{Shift}
 use Rattle.merging.specs.Packs.{Out, triple_same}
 use Rattle.merging.specs.Merges.{Merged}
 
--- a definition on words, state and area, of what is lent
+-- what a definition f, of words, state and area, gives for those that are lent
 abbrev pub on : {A : Type 0} → (List ℕ → State → List ℕ → A) → Lent → A
 on f lent = f lent.words.now lent.state lent.work.now
 
@@ -19,6 +19,7 @@ Holds old new state words work =
 abbrev pub Stores : Lent → Lent → List ℕ → Type 0
 Stores old new work = Holds old new old.state old.words.now work
 
+-- a call leaves the state, the words and the area that a definition gives
 abbrev pub Becomes : Lent → Lent → State × List ℕ × List ℕ → Type 0
 Becomes old new x = Holds old new x.0 x.1 x.2
 

@@ -47,6 +47,7 @@ left_others ws b height stop j =
 unfoldable pub right_others : List ℕ → ℕ → ℕ → ℕ → Option Others
 right_others ws b height j = pick (nat_lt height j) None (Some (kids_of b 1 (count_of ws b)))
 
+-- the one or the other, by the side
 abbrev others_by : List ℕ → ℕ → ℕ → ℕ → Side → Option Others
 others_by ws b height j (side.Left stop) = left_others ws b height stop j
 others_by ws b height j side.Right = right_others ws b height j

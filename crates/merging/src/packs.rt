@@ -1,5 +1,5 @@
 // Packing the nodes of one height.
-ghost use Rattle.std.specs.Prelude.{◌≡◌, ◌+◌, ◌-◌, ◌*◌, ◌<◌, ◌≤◌, min, max};
+ghost use Rattle.std.specs.Prelude.{◌≡◌, ◌-◌, ◌≤◌, max};
 ghost use Rattle.blocks.specs.Words.{count_of};
 ghost use Rattle.merging.specs.Areas.{item_of};
 ghost use Rattle.merging.specs.Lent.{on, Holds, Stores, Becomes, Packs};

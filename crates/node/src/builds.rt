@@ -1,5 +1,5 @@
 // The branch builder: kind, count and sizes of a node whose slots are set.
-ghost use Rattle.std.specs.Prelude.{◌≡◌, ◌<◌};
+ghost use Rattle.std.specs.Prelude.{◌≡◌};
 ghost use Rattle.blocks.specs.Views.{read};
 ghost use Rattle.node.specs.Builds.{dense_part, sub_trie, thin_of, any_thin, sizes_of, built_of};
 

@@ -21,6 +21,7 @@ pub record Popped : Type 0 where
   pub left : ℕ
   pub freed : ℕ
 
+-- an answer with the state after
 abbrev pub popped : Taken → State → Popped
 popped t st = record { state = st; leaf = t.leaf; len = t.len; left = t.left; freed = t.freed }
 
