@@ -40,10 +40,11 @@ impl<'a> Block<'a> {
         Kind::from(self.word(Field::Kind))
     }
 
+    // By the word: to make a kind of it first would cost more, at each node of a walk.
     pub fn is_relaxed(self) -> bool
         ensures { result ≡ (read kind_of self.entry == 3) }
     {
-        self.kind() == Kind::Relaxed
+        self.word(Field::Kind) == Kind::Relaxed.into()
     }
 
     // The slots in use: 32 at most.

@@ -13,7 +13,7 @@ pub use areas::{WORK, clear};
 use blocks::{Block, State};
 pub use merges::{Merged, merge};
 pub use plans::held_after;
-pub use spines::{Pair, pair_of};
+pub use spines::{Pair, Side, pair_of};
 
 // What a merge is lent: a pool's words, the state record, and a work area.
 #[derive(Drop)]
